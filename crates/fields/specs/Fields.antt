@@ -1,0 +1,65 @@
+-- What stands at a place of a card file: a count, a string, a number, so many of a thing in a row.
+-- Each definition gives the value and the place past it, or the reply's number, judged from left to right.
+-- Assumes nothing.
+use Prim.Native.Nat.{ℕ, zero, suc, _+_, _-_, _*_}
+use mathlib.Core.Bool.{Bool, true, false, cond, _&&_}
+use mathlib.Core.List.{List, [], _∷_}
+use lib.ListN.{length, getD, take, drop}
+use lib.Dec.{ltb, leb}
+use Rattle.fields.specs.declared.string.Span.{Span}
+
+-- what reading finds: a value and the place past it, or the number of the reply
+pub data Parsed (A : Type 0) : Type 0 where
+  got : A → ℕ → Parsed A
+  stop : ℕ → Parsed A
+
+-- the next thing is read where the last one ends
+abbrev pub after : {A B : Type 0} → Parsed A → (A → ℕ → Parsed B) → Parsed B
+after (got a e) f = f a e
+after (stop r) f = stop r
+
+-- a count or a length: a byte in a range, judged when it is read
+unfoldable pub countP : ℕ → ℕ → List ℕ → ℕ → Parsed ℕ
+countP least most s at =
+    cond (ltb at (length s))
+    (cond (leb least (getD s at 0) && leb (getD s at 0) most) (got (getD s at 0) (at + 1)) (stop 7))
+    (stop 6)
+
+-- the place of a string's bytes: the length is judged first, then its bytes must be there
+unfoldable pub spanP : ℕ → ℕ → List ℕ → ℕ → Parsed Span
+spanP least most s at =
+    after (countP least most s at) (λ n e.
+    cond (leb (e + n) (length s)) (got (record { start = e; end = e + n }) (e + n)) (stop 6))
+
+-- the bytes of a span; none where it does not lie within the file
+unfoldable pub bytesOf : Span → List ℕ → List ℕ
+bytesOf p s = cond (leb (p .start) (p .end) && leb (p .end) (length s)) (take (p .end - p .start) (drop (p .start) s)) []
+
+-- a string
+unfoldable pub stringP : ℕ → ℕ → List ℕ → ℕ → Parsed (List ℕ)
+stringP least most s at = after (spanP least most s at) (λ p e. got (bytesOf p s) e)
+
+-- bytes as one number, the highest first: v is the number that those before them make
+abbrev pub bigFrom : ℕ → List ℕ → ℕ
+bigFrom v [] = v
+bigFrom v (b ∷ l) = bigFrom (v * 256 + b) l
+
+abbrev pub bigEndian : List ℕ → ℕ
+bigEndian l = bigFrom 0 l
+
+-- a number of so many bytes
+unfoldable pub bigP : ℕ → List ℕ → ℕ → Parsed ℕ
+bigP width s at = cond (leb (at + width) (length s)) (got (bigEndian (take width (drop at s))) (at + width)) (stop 6)
+
+-- n of a thing in a row
+unfoldable pub many : {A : Type 0} → (List ℕ → ℕ → Parsed A) → ℕ → List ℕ → ℕ → Parsed (List A)
+many p zero s at = got [] at
+many p (suc n) s at = after (p s at) (λ a e. after (many p n s e) (λ l f. got (a ∷ l) f))
+
+-- a count in a range, then so many of a thing
+unfoldable pub countedP : {A : Type 0} → ℕ → ℕ → (List ℕ → ℕ → Parsed A) → List ℕ → ℕ → Parsed (List A)
+countedP least most p s at = after (countP least most s at) (λ n e. many p n s e)
+
+-- a thing that fills its bytes to the last: bytes left over are judged when it was read
+unfoldable pub whole : {A : Type 0} → (List ℕ → ℕ → Parsed A) → List ℕ → Parsed A
+whole p s = after (p s 0) (λ a e. cond (ltb e (length s)) (stop 9) (got a e))

@@ -1,0 +1,22 @@
+-- When an address lies in a range (upstream's `ip_addr_in_range`). Assumes nothing.
+use Prim.Native.Nat.{ℕ, _*_}
+use mathlib.Core.Bool.{Bool, true, _&&_, _||_}
+use mathlib.Core.List.{List, [], _∷_}
+use lib.ListN.{length, take, drop}
+use lib.Dec.{eqb}
+use lib.Bits.{bitAnd}
+
+-- net and address agree, byte by byte, wherever the mask has a one
+unfoldable pub masked : List ℕ → List ℕ → List ℕ → Bool
+masked [] mask addr = true
+masked (n ∷ net) [] addr = true
+masked (n ∷ net) (m ∷ mask) [] = true
+masked (n ∷ net) (m ∷ mask) (a ∷ addr) = eqb (bitAnd n m) (bitAnd a m) && masked net mask addr
+
+-- an address of this width, and a range of a net and a mask of it
+unfoldable pub holds : ℕ → List ℕ → List ℕ → Bool
+holds width range addr = eqb (length range) (2 * width) && eqb (length addr) width && masked (take width range) (drop width range) addr
+
+-- of the one kind or of the other
+unfoldable pub ipAddrInRange : ℕ → ℕ → List ℕ → List ℕ → Bool
+ipAddrInRange v4 v6 range addr = holds v4 range addr || holds v6 range addr

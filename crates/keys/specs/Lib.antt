@@ -1,0 +1,2 @@
+pub mod AuthKeyId
+pub mod Address

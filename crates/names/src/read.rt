@@ -1,0 +1,160 @@
+// Attributes, RDNs and names read from left to right.
+use fields::{count_at, string_at, CountAt, Fault, Past, Span, StringAt};
+ghost use mathlib.Core.Path.{_≡_};
+ghost use Rattle.fields.specs.Fields.{countP, many};
+ghost use Rattle.fields.specs.Answers.{counted, passed, passing};
+ghost use Rattle.names.specs.Names.{attrP, rdnP, nameP};
+ghost use Rattle.names.specs.Answers.{attributed, spansP, rdnBegun, nameBegun};
+
+// An attribute that was read: where its OID and its value stand.
+pub struct Attribute {
+    pub oid: Span,
+    pub value: Span,
+}
+
+impl Attribute {
+    pub const OID_LEAST: usize = 1;
+    pub const OID_MOST: usize = 16;
+    pub const VALUE_LEAST: usize = 0;
+    pub const VALUE_MOST: usize = 255;
+}
+
+// An RDN that was begun: how many attributes it has, and where the first one stands.
+pub struct Rdn {
+    pub count: usize,
+    pub first: usize,
+}
+
+impl Rdn {
+    pub const LEAST: usize = 1;
+    pub const MOST: usize = 4;
+}
+
+// A name that was begun: how many RDNs it has, and where the first one stands.
+pub struct Name {
+    pub count: usize,
+    pub first: usize,
+}
+
+impl Name {
+    pub const LEAST: usize = 0;
+    pub const MOST: usize = 16;
+}
+
+pub enum AttributeAt {
+    Got(Attribute),
+    Stop(Fault),
+}
+
+pub(crate) enum RdnAt {
+    Got(Rdn),
+    Stop(Fault),
+}
+
+pub(crate) enum NameAt {
+    Got(Name),
+    Stop(Fault),
+}
+
+// The attribute at a place; the place past it is the end of its value.
+pub fn attribute_at(file: &[u8], at: usize) -> AttributeAt
+    ensures {
+        λ r. do ⌜ attributed r ≡ spansP
+            (← ⟦Attribute::OID_LEAST⟧ .entry)
+            (← ⟦Attribute::OID_MOST⟧ .entry)
+            (← ⟦Attribute::VALUE_LEAST⟧ .entry)
+            (← ⟦Attribute::VALUE_MOST⟧ .entry)
+            (now (file .entry)) at ⌝
+    }
+{
+    let oid = match string_at(file, at, Attribute::OID_LEAST, Attribute::OID_MOST) {
+        StringAt::Got(span) => span,
+        StringAt::Stop(fault) => {
+            return AttributeAt::Stop(fault);
+        }
+    };
+    match string_at(file, oid.end, Attribute::VALUE_LEAST, Attribute::VALUE_MOST) {
+        StringAt::Got(value) => AttributeAt::Got(Attribute { oid, value }),
+        StringAt::Stop(fault) => AttributeAt::Stop(fault),
+    }
+}
+
+// The count of an RDN's attributes.
+pub(crate) fn rdn_begins(file: &[u8], at: usize) -> RdnAt
+    ensures { λ r. do ⌜ rdnBegun r ≡ countP (← ⟦Rdn::LEAST⟧ .entry) (← ⟦Rdn::MOST⟧ .entry) (now (file .entry)) at ⌝ }
+{
+    match count_at(file, at, Rdn::LEAST, Rdn::MOST) {
+        CountAt::Got { count, next } => RdnAt::Got(Rdn { count, first: next }),
+        CountAt::Stop(fault) => RdnAt::Stop(fault),
+    }
+}
+
+// The count of a name's RDNs.
+pub(crate) fn name_begins(file: &[u8], at: usize) -> NameAt
+    ensures { λ r. do ⌜ nameBegun r ≡ countP (← ⟦Name::LEAST⟧ .entry) (← ⟦Name::MOST⟧ .entry) (now (file .entry)) at ⌝ }
+{
+    match count_at(file, at, Name::LEAST, Name::MOST) {
+        CountAt::Got { count, next } => NameAt::Got(Name { count, first: next }),
+        CountAt::Stop(fault) => NameAt::Stop(fault),
+    }
+}
+
+// The place past the RDN at a place.
+pub fn rdn_at(file: &[u8], at: usize) -> Past
+    ensures { λ r. ⌜ passed r ≡ passing (rdnP (now (file .entry)) at) ⌝ }
+{
+    match rdn_begins(file, at) {
+        RdnAt::Got(rdn) => attributes_at(file, rdn.first, rdn.count),
+        RdnAt::Stop(fault) => Past::Stop(fault),
+    }
+}
+
+// The place past the name at a place.
+pub fn name_at(file: &[u8], at: usize) -> Past
+    ensures { λ r. ⌜ passed r ≡ passing (nameP (now (file .entry)) at) ⌝ }
+{
+    match name_begins(file, at) {
+        NameAt::Got(name) => rdns_at(file, name.first, name.count),
+        NameAt::Stop(fault) => Past::Stop(fault),
+    }
+}
+
+// The place past n attributes.
+fn attributes_at(file: &[u8], first: usize, n: usize) -> Past
+    ensures { λ r. ⌜ passed r ≡ passing (many attrP n (now (file .entry)) first) ⌝ }
+{
+    let mut at = first;
+    let mut left = n;
+    while 0 < left {
+        match attribute_at(file, at) {
+            AttributeAt::Got(attribute) => {
+                at = attribute.value.end;
+                left -= 1;
+            }
+            AttributeAt::Stop(fault) => {
+                return Past::Stop(fault);
+            }
+        }
+    }
+    Past::Got(at)
+}
+
+// The place past n RDNs.
+fn rdns_at(file: &[u8], first: usize, n: usize) -> Past
+    ensures { λ r. ⌜ passed r ≡ passing (many rdnP n (now (file .entry)) first) ⌝ }
+{
+    let mut at = first;
+    let mut left = n;
+    while 0 < left {
+        match rdn_at(file, at) {
+            Past::Got(next) => {
+                at = next;
+                left -= 1;
+            }
+            Past::Stop(fault) => {
+                return Past::Stop(fault);
+            }
+        }
+    }
+    Past::Got(at)
+}

@@ -1,0 +1,156 @@
+// Two attributes, RDNs or names walked side by side, place by place.
+use crate::read::{attribute_at, name_begins, rdn_begins, Attribute, AttributeAt, NameAt, RdnAt};
+use fields::part;
+use text::{equal, normalize_string, Normalized};
+ghost use mathlib.Core.Path.{_≡_};
+ghost use mathlib.Core.Bool.{Bool};
+ghost use Prim.Native.Nat.{_≤_};
+ghost use lib.ListN.{length};
+ghost use Rattle.fields.specs.Fields.{many};
+ghost use Rattle.text.specs.Bytes.{same};
+ghost use Rattle.text.specs.Normal.{normal};
+ghost use Rattle.names.specs.Names.{attrP, rdnP, nameP, places, sameAttr, sameRdn, sameDn};
+ghost use Rattle.names.specs.Answers.{bothSame};
+ghost use Rattle.names.specs.Walks.{attrOf, Short, walk};
+
+// Two things are the same and end here, or they differ, or one of them can't be read.
+pub(crate) enum Walk {
+    On { left: usize, right: usize },
+    Differ,
+}
+
+// Whether the names at two places of a file are the same, walked once.
+pub fn same_names(file: &[u8], a: usize, b: usize, normalise: bool) -> bool
+    ensures { λ r. ⌜ r ≡ bothSame (sameDn normalise) (nameP (now (file .entry)) a) (nameP (now (file .entry)) b) ⌝ }
+{
+    match dn_walk(file, a, file, b, normalise) {
+        Walk::On { left: _, right: _ } => true,
+        Walk::Differ => false,
+    }
+}
+
+pub(crate) fn dn_walk(s: &[u8], at: usize, t: &[u8], bt: usize, normalise: bool) -> Walk
+    ensures { λ r. ⌜ r ≡ walk (sameDn normalise) (nameP (now (s .entry)) at) (nameP (now (t .entry)) bt) ⌝ }
+{
+    match name_begins(s, at) {
+        NameAt::Got(a) => match name_begins(t, bt) {
+            NameAt::Got(b) => {
+                if a.count == b.count {
+                    rdns_walk(s, a.first, t, b.first, a.count, normalise)
+                } else {
+                    Walk::Differ
+                }
+            }
+            NameAt::Stop(_) => Walk::Differ,
+        },
+        NameAt::Stop(_) => Walk::Differ,
+    }
+}
+
+fn rdns_walk(s: &[u8], at: usize, t: &[u8], bt: usize, n: usize, normalise: bool) -> Walk
+    ensures { λ r. ⌜ r ≡ walk (places (sameRdn normalise)) (many rdnP n (now (s .entry)) at) (many rdnP n (now (t .entry)) bt) ⌝ }
+{
+    let mut a = at;
+    let mut b = bt;
+    let mut rest = n;
+    while 0 < rest {
+        match rdn_walk(s, a, t, b, normalise) {
+            Walk::On { left, right } => {
+                a = left;
+                b = right;
+                rest -= 1;
+            }
+            Walk::Differ => {
+                return Walk::Differ;
+            }
+        }
+    }
+    Walk::On { left: a, right: b }
+}
+
+pub(crate) fn rdn_walk(s: &[u8], at: usize, t: &[u8], bt: usize, normalise: bool) -> Walk
+    ensures { λ r. ⌜ r ≡ walk (sameRdn normalise) (rdnP (now (s .entry)) at) (rdnP (now (t .entry)) bt) ⌝ }
+{
+    match rdn_begins(s, at) {
+        RdnAt::Got(a) => match rdn_begins(t, bt) {
+            RdnAt::Got(b) => {
+                if a.count == b.count {
+                    attrs_walk(s, a.first, t, b.first, a.count, normalise)
+                } else {
+                    Walk::Differ
+                }
+            }
+            RdnAt::Stop(_) => Walk::Differ,
+        },
+        RdnAt::Stop(_) => Walk::Differ,
+    }
+}
+
+fn attrs_walk(s: &[u8], at: usize, t: &[u8], bt: usize, n: usize, normalise: bool) -> Walk
+    ensures { λ r. ⌜ r ≡ walk (places (sameAttr normalise)) (many attrP n (now (s .entry)) at) (many attrP n (now (t .entry)) bt) ⌝ }
+{
+    let mut a = at;
+    let mut b = bt;
+    let mut rest = n;
+    while 0 < rest {
+        match attr_walk(s, a, t, b, normalise) {
+            Walk::On { left, right } => {
+                a = left;
+                b = right;
+                rest -= 1;
+            }
+            Walk::Differ => {
+                return Walk::Differ;
+            }
+        }
+    }
+    Walk::On { left: a, right: b }
+}
+
+pub(crate) fn attr_walk(s: &[u8], at: usize, t: &[u8], bt: usize, normalise: bool) -> Walk
+    ensures { λ r. ⌜ r ≡ walk (sameAttr normalise) (attrP (now (s .entry)) at) (attrP (now (t .entry)) bt) ⌝ }
+{
+    match attribute_at(s, at) {
+        AttributeAt::Got(a) => match attribute_at(t, bt) {
+            AttributeAt::Got(b) => {
+                if same_attribute(s, a, t, b, normalise) {
+                    Walk::On { left: a.value.end, right: b.value.end }
+                } else {
+                    Walk::Differ
+                }
+            }
+            AttributeAt::Stop(_) => Walk::Differ,
+        },
+        AttributeAt::Stop(_) => Walk::Differ,
+    }
+}
+
+// Whether two attributes that were read are the same.
+pub(crate) fn same_attribute(s: &[u8], a: Attribute, t: &[u8], b: Attribute, normalise: bool) -> bool
+    requires { ⌜ Short a (now s) × Short b (now t) ⌝ }
+    ensures { λ r. ⌜ r ≡ sameAttr normalise (attrOf a (now (s .entry))) (attrOf b (now (t .entry))) ⌝ }
+{
+    if !equal(part(s, a.oid), part(t, b.oid)) {
+        return false;
+    }
+    if normalise {
+        return same_normal(part(s, a.value), part(t, b.value));
+    }
+    equal(part(s, a.value), part(t, b.value))
+}
+
+// Whether two values have the same normal form: each is at most an attribute value's longest.
+fn same_normal(a: &[u8], b: &[u8]) -> bool
+    requires { do ⌜ (length (now a) ≤ (← ⟦Attribute::VALUE_MOST⟧)) × (length (now b) ≤ (← ⟦Attribute::VALUE_MOST⟧)) ⌝ }
+    ensures { λ r. ⌜ r ≡ same (normal (now (a .entry))) (normal (now (b .entry))) ⌝ }
+{
+    let mut x = [0u8; Attribute::VALUE_MOST];
+    let mut y = [0u8; Attribute::VALUE_MOST];
+    match normalize_string(a, &mut x) {
+        Normalized::Length(n) => match normalize_string(b, &mut y) {
+            Normalized::Length(m) => equal(&x[..n], &y[..m]),
+            Normalized::NoRoom => false,
+        },
+        Normalized::NoRoom => false,
+    }
+}
