@@ -1,0 +1,44 @@
+// One line for each case: what it shows, and the answer.
+use fields::Fault;
+use libc::STDOUT_FILENO;
+use names::Related;
+
+pub fn line(label: &[u8], answer: &[u8]) {
+    io::write_all(STDOUT_FILENO, label);
+    io::write_all(STDOUT_FILENO, b": ");
+    io::write_all(STDOUT_FILENO, answer);
+    io::write_all(STDOUT_FILENO, b"\n");
+}
+
+pub fn yes_no(label: &[u8], yes: bool) {
+    if yes {
+        line(label, b"yes");
+    } else {
+        line(label, b"no");
+    }
+}
+
+pub fn related(label: &[u8], r: Related) {
+    match r {
+        Related::No => line(label, b"no"),
+        Related::Yes => line(label, b"yes"),
+        Related::Stop(fault) => {
+            io::write_all(STDOUT_FILENO, label);
+            io::write_all(STDOUT_FILENO, b": ");
+            io::print_decimal(STDOUT_FILENO, number(fault));
+            io::write_all(STDOUT_FILENO, b"\n");
+        }
+    }
+}
+
+// The fault's number in the table of replies.
+fn number(fault: Fault) -> u64 {
+    match fault {
+        Fault::UnknownEdition => 4,
+        Fault::TooLong => 5,
+        Fault::CutShort => 6,
+        Fault::BadCount => 7,
+        Fault::BadValue => 8,
+        Fault::LeftOver => 9,
+    }
+}
