@@ -9,6 +9,7 @@ pub struct Address {}
 
 impl Address {
     pub const V4: usize = 4;
+
     pub const V6: usize = 16;
 }
 

@@ -14,13 +14,11 @@ pub fn check_auth_key_id(
     skid: &[u8],
     serial: &[u8],
 ) -> bool
-    ensures {
-        λ r. ⌜ r ≡ checkAuthKeyId
-            (given has_akid (now (akid .entry)))
-            (given has_aserial (now (aserial .entry)))
-            (given has_skid (now (skid .entry)))
-            (now (serial .entry)) ⌝
-    }
+    ensures { λ r. ⌜ r ≡ checkAuthKeyId
+        (given has_akid (now (akid .entry)))
+        (given has_aserial (now (aserial .entry)))
+        (given has_skid (now (skid .entry)))
+        (now (serial .entry)) ⌝ }
 {
     if has_akid && has_skid {
         if !text::equal(akid, skid) {

@@ -4,6 +4,8 @@ mod bytes;
 mod normal;
 mod wildcard;
 
-pub use bytes::{equal, lower};
-pub use normal::{normalize_string, Normalized};
+pub use bytes::equal;
+pub use bytes::lower;
+pub use normal::Normalized;
+pub use normal::normalize_string;
 pub use wildcard::match_name;

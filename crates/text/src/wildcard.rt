@@ -1,5 +1,8 @@
 // A host name under a pattern that may begin with a star.
-use crate::bytes::{ends_with, equal, has_byte, starts_with};
+use crate::bytes::ends_with;
+use crate::bytes::equal;
+use crate::bytes::has_byte;
+use crate::bytes::starts_with;
 ghost use mathlib.Core.Path.{_≡_};
 ghost use Rattle.text.specs.Wildcard.{matchName};
 

@@ -1,0 +1,5 @@
+pub mod Same
+pub mod Form
+pub mod Star
+pub mod Told
+pub mod Pinned
