@@ -6,10 +6,16 @@ mod fault;
 mod number;
 mod string;
 
-pub use count::{count_at, CountAt};
+pub use count::CountAt;
+pub use count::count_at;
 pub use fault::Fault;
-pub use number::{u16_at, u64_at, NumberAt};
-pub use string::{part, string_at, Span, StringAt};
+pub use number::NumberAt;
+pub use number::u16_at;
+pub use number::u64_at;
+pub use string::Span;
+pub use string::StringAt;
+pub use string::part;
+pub use string::string_at;
 
 // The place past a thing that was read, or why it can't be read.
 pub enum Past {

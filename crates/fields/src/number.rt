@@ -1,7 +1,7 @@
 // A number of several bytes, the highest first.
 use crate::Fault;
 ghost use mathlib.Core.Path.{_≡_};
-ghost use Prim.Native.Nat.{_≤_, _<_, _^_, _*_};
+ghost use Prim.Native.Nat.{_≤_};
 ghost use lib.ListN.{length};
 ghost use Rattle.fields.specs.Fields.{bigEndian, bigP};
 ghost use Rattle.fields.specs.Answers.{numbered};

@@ -1,5 +1,7 @@
 // A string: a length byte and its bytes.
-use crate::{count_at, CountAt, Fault};
+use crate::CountAt;
+use crate::Fault;
+use crate::count_at;
 ghost use mathlib.Core.Path.{_≡_};
 ghost use Rattle.fields.specs.Fields.{spanP, bytesOf};
 ghost use Rattle.fields.specs.Answers.{spanned};
@@ -27,7 +29,10 @@ pub fn string_at(file: &[u8], at: usize, least: usize, most: usize) -> StringAt
             if file.len() - next < count {
                 return StringAt::Stop(Fault::CutShort);
             }
-            StringAt::Got(Span { start: next, end: next + count })
+            StringAt::Got(Span {
+                start: next,
+                end: next + count,
+            })
         }
         CountAt::Stop(fault) => StringAt::Stop(fault),
     }

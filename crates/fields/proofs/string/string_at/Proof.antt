@@ -1,0 +1,62 @@
+-- A string's span is read as it is defined: what the count answers decides, then whether the bytes are there.
+-- Assumes nothing.
+use native.Mathlib.Omega.{arith}
+use mathlib.Core.Path.{_≡_, sym, ap, _∙_}
+use borrow.Author.Needs.{needs}
+use Rattle.fields.specs.Fields.{got, countP}
+use Rattle.fields.specs.Answers.{counted}
+use Rattle.fields.proofs.Strings.{span-stops, span-cut, span-got}
+use Rattle.fields.proofs.string.string_at.Statement.{statement}
+use Rattle.fields.proofs.string.string_at.Tie as tie
+
+-- the length that was read, and the place past it
+length-got : (c : tie.After-count)
+    → countP
+    (c .before .before .before .before .args .least)
+    (c .before .before .before .before .args .most)
+    (c .before .before .before .before .args .file .now)
+    (c .before .before .before .before .args .at)
+    ≡ got (c .count .given .0 .0) (c .count .given .0 .1 .0)
+length-got c = sym (c .before .before .count-at .ensures) ∙ ap counted (c .count .given .1)
+
+count-at-requires : tie.Need-count-at-requires
+count-at-requires c κs = search needs
+
+enum-known-count : tie.Need-enum-known-count
+enum-known-count c = search needs
+
+returns : tie.Need-returns
+returns c = sym (span-cut _ _ _ _ _ _ (length-got (c .before .before)) (omega arith))
+
+sub-if2 : tie.Need-sub-if2
+sub-if2 c = search needs
+
+returns-2 : tie.Need-returns-2
+returns-2 c = sym (span-cut _ _ _ _ _ _ (length-got (c .before .before .before)) (omega arith))
+
+add-t10 : tie.Need-add-t10
+add-t10 c = search needs
+
+enum-known-fault : tie.Need-enum-known-fault
+enum-known-fault c = search needs
+
+returns-3 : tie.Need-returns-3
+returns-3 c = sym (span-got _ _ _ _ _ _ (length-got (c .before .before .before)) (omega arith))
+
+returns-4 : tie.Need-returns-4
+returns-4 c =
+    sym (span-stops _ _ _ _ _ (sym (c .before .before .before .count-at .ensures) ∙ ap counted (c .before .fault .given .1)))
+
+pub string-at-spec : {M : Type 1} → statement M
+string-at-spec =
+    tie.close
+    (tie.spec
+    count-at-requires
+    enum-known-count
+    returns
+    sub-if2
+    returns-2
+    add-t10
+    enum-known-fault
+    returns-3
+    returns-4)
