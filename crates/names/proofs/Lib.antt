@@ -1,3 +1,3 @@
-pub mod Reading
 pub mod Attributes
 pub mod Walks
+pub mod Whole
