@@ -1,6 +1,6 @@
--- Two rows walked side by side, for any element, relation and reader: a loop that counts down (`walk-none`, `walk-on`,
--- `walk-differs`), and rows with their counts before them (`counted-same`, `counted-uneven`, and where a count can't be read).
--- Assumes nothing.
+-- Two things walked side by side: whether the walk came through (`walk-both`), a loop that counts two rows down (`walk-none`,
+-- `walk-on`, `walk-differs`), rows with their counts before them (`counted-same`, `counted-uneven`, and where a count can't be
+-- read), each for any element, relation and reader. Assumes nothing.
 use Prim.Native.Nat.{ℕ, zero, suc, _-_, _<_, _≤_}
 use mathlib.Core.Path.{_≡_, refl, sym, _∙_}
 use mathlib.Core.Bool.{Bool, true, false, cond, _&&_}
@@ -12,6 +12,7 @@ use borrow.Author.Tests.{eq-eqb, ne-eqb}
 use Rattle.fields.specs.Fields.{Parsed, got, stop, after, countP, many, countedP}
 use Rattle.fields.proofs.Many.{many-length}
 use Rattle.names.specs.Names.{places}
+use Rattle.names.specs.Answers.{bothSame}
 use Rattle.names.specs.Walks.{walk}
 use Rattle.names.specs.declared.same.Walk.{Walk}
 use Rattle.names.specs.declared.same.Walk.the-variants.{On, Differ}
@@ -26,10 +27,26 @@ pub stop-right : {A : Type 0} (q : A → A → Bool) (x : Parsed A) (r : ℕ) �
 stop-right q (got x e) r = refl
 stop-right q (stop o) r = refl
 
+-- ---- a walk as a yes or no
+
+abbrev pub through : Walk → Bool
+through (On e f) = true
+through Differ = false
+
+through-test : (t : Bool) (e f : ℕ) → through (cond t (On e f) Differ) ≡ t
+through-test true e f = refl
+through-test false e f = refl
+
+pub walk-both : {A : Type 0} (q : A → A → Bool) (x y : Parsed A) → through (walk q x y) ≡ bothSame q x y
+walk-both q (got x e) (got y f) = through-test (q x y) e f
+walk-both q (got x e) (stop r) = refl
+walk-both q (stop r) y = refl
+
 -- ---- rows of n things
 
 module _ {A : Type 0} (q : A → A → Bool) where
-  first-and-rest : (t : Bool) (x y : A) → q x y ≡ t → (l m : Parsed (List A)) (e f : ℕ) (g : ℕ → ℕ → Walk) → g e f ≡ walk (places q) l m
+  first-and-rest : (t : Bool) (x y : A) → q x y ≡ t → (l m : Parsed (List A)) (e f : ℕ) (g : ℕ → ℕ → Walk)
+      → g e f ≡ walk (places q) l m
       → walk (places q) (after l (λ k i. got (x ∷ k) i)) (after m (λ k i. got (y ∷ k) i)) ≡ on (cond t (On e f) Differ) g
   unfolding places
   first-and-rest true x y h (got l i) (got m j) e f g r = rw (h, r)
@@ -41,7 +58,9 @@ module _ {A : Type 0} (q : A → A → Bool) where
 
   module _ (p : List ℕ → ℕ → Parsed A) (s t : List ℕ) where
     step : (n : ℕ) (a b : Parsed A)
-        → walk (places q) (after a (λ x e. after (many p n s e) (λ l f. got (x ∷ l) f))) (after b (λ x e. after (many p n t e) (λ l f. got (x ∷ l) f)))
+        → walk (places q)
+        (after a (λ x e. after (many p n s e) (λ l f. got (x ∷ l) f)))
+        (after b (λ x e. after (many p n t e) (λ l f. got (x ∷ l) f)))
         ≡ on (walk q a b) (λ e f. walk (places q) (many p n s e) (many p n t f))
     step n (got x e) (got y f) = first-and-rest (q x y) x y refl (many p n s e) (many p n t f) e f _ refl
     step n (got x e) (stop r) = stop-right (places q) (after (many p n s e) (λ l f. got (x ∷ l) f)) r
@@ -65,7 +84,8 @@ module _ {A : Type 0} (q : A → A → Bool) where
         → walk (places q) (many p n s at) (many p n t bt) ≡ walk (places q) (many p (n - 1) s e) (many p (n - 1) t f)
     walk-on n at bt e f h w = walk-some n at bt h ∙ rw w
 
-    pub walk-differs : (n at bt : ℕ) → 0 < n → walk q (p s at) (p t bt) ≡ Differ → walk (places q) (many p n s at) (many p n t bt) ≡ Differ
+    pub walk-differs : (n at bt : ℕ) → 0 < n → walk q (p s at) (p t bt) ≡ Differ
+        → walk (places q) (many p n s at) (many p n t bt) ≡ Differ
     walk-differs n at bt h w = walk-some n at bt h ∙ rw w
 
 -- ---- rows that have to be equally long

@@ -11,7 +11,6 @@ use text::Normalized;
 use text::equal;
 use text::normalize_string;
 ghost use mathlib.Core.Path.{_≡_};
-ghost use mathlib.Core.Bool.{Bool};
 ghost use Prim.Native.Nat.{_≤_};
 ghost use lib.ListN.{length};
 ghost use Rattle.fields.specs.Fields.{many};

@@ -1,5 +1,4 @@
--- `names::same::same_normal` meets its contract: each value is at most as long as the room that it is normalised in, so what is
--- written there is its normal form. Assumes nothing.
+-- `same_normal` compares normal forms: each value is at most as long as the room that it is normalised in. Assumes nothing.
 use native.Mathlib.Omega.{arith}
 use mathlib.Core.Path.{_∙_}
 use lib.ListN.{length-take}
@@ -33,11 +32,7 @@ array-share-prefix-x c =
     told _ _ _ _ _ (x .0) (x .1) (n .n .given .1) .within
 
 slice-aggregate-equal : tie.Need-slice-aggregate-equal
-slice-aggregate-equal c =
-    let n = c .before .before .before .before .before .before .before .before in
-    let x = n .before .before .before .normalize-string .ensures in
-    let t = told _ _ _ _ _ (x .0) (x .1) (n .n .given .1) in
-    simp length-take (omega (arith, t .within))
+slice-aggregate-equal c = simp length-take (omega (arith, array-share-prefix-x (c .before)))
 
 array-share-prefix-y : tie.Need-array-share-prefix-y
 array-share-prefix-y c =
@@ -46,11 +41,7 @@ array-share-prefix-y c =
     told _ _ _ _ _ (y .0) (y .1) (m .m .given .1) .within
 
 slice-aggregate-equal-2 : tie.Need-slice-aggregate-equal-2
-slice-aggregate-equal-2 c =
-    let m = c .before .before .before in
-    let y = m .before .before .before .normalize-string2 .ensures in
-    let t = told _ _ _ _ _ (y .0) (y .1) (m .m .given .1) in
-    simp length-take (omega (arith, t .within))
+slice-aggregate-equal-2 c = simp length-take (omega (arith, array-share-prefix-y (c .before)))
 
 equal-requires : tie.Need-equal-requires
 equal-requires c κs = search needs
@@ -70,10 +61,14 @@ returns c =
     c .equal .ensures ∙ rw (told _ _ _ _ _ (x .0) (x .1) (n .n .given .1) .whole, told _ _ _ _ _ (y .0) (y .1) (m .m .given .1) .whole)
 
 returns-2 : tie.Need-returns-2
-returns-2 c = absurd (roomy _ _ _ (c .before .before .before .normalize-string2 .ensures .0) (c .before .before .before .before .before .before .before .before .before .before .before .before .before .pre .1) (c .enum-told .given .1))
+returns-2 c =
+    let y = c .before .before .before in
+    absurd (roomy _ _ _ (y .normalize-string2 .ensures .0) (y .before .before .before .before .before .before .before .before .before .before .pre .1) (c .enum-told .given .1))
 
 returns-3 : tie.Need-returns-3
-returns-3 c = absurd (roomy _ _ _ (c .before .before .before .normalize-string .ensures .0) (c .before .before .before .before .before .before .before .pre .0) (c .enum-told2 .given .1))
+returns-3 c =
+    let x = c .before .before .before in
+    absurd (roomy _ _ _ (x .normalize-string .ensures .0) (x .before .before .before .before .pre .0) (c .enum-told2 .given .1))
 
 pub same-normal-spec : {M : Type 1} → statement M
 same-normal-spec =
