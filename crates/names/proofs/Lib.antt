@@ -1,5 +1,5 @@
-pub mod Reading
 pub mod Attributes
-pub mod Walks
 pub mod Standing
 pub mod Subtrees
+pub mod Walks
+pub mod Whole

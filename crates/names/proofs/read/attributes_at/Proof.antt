@@ -5,8 +5,7 @@ use Rattle.fields.specs.Fields.{many}
 use Rattle.fields.specs.Answers.{passing}
 use Rattle.fields.proofs.Many.{many-none, many-some}
 use Rattle.names.specs.Names.{attrP}
-use Rattle.names.specs.Answers.{attributed}
-use Rattle.names.proofs.Reading.{attr-passing}
+use Rattle.names.proofs.Attributes.{attr-read, attr-stops}
 use Rattle.names.proofs.read.attributes_at.Statement.{statement}
 use Rattle.names.proofs.read.attributes_at.Tie as tie
 
@@ -34,8 +33,8 @@ loop-less c = search needs
 loop-again : tie.Need-loop-again Inv-loop μ-loop
 loop-again c =
     let a = c .before .before .before in
-    let e = attr-passing _ _ ∙ ap passing (sym (a .attribute-at .ensures) ∙ ap attributed (c .before .attribute .given .1)) in
-    a .before .before .loop .inv ∙ many-some _ _ _ _ (a .before .loop-test .taken) ∙ rw e
+    let e = attr-read _ _ _ (a .attribute-at .ensures) _ (c .before .attribute .given .1) in
+    a .before .before .loop .inv ∙ many-some _ _ _ _ (a .before .loop-test .taken) ∙ rw (e .is)
 
 enum-known-fault : tie.Need-enum-known-fault Inv-loop μ-loop
 enum-known-fault c = search needs
@@ -43,7 +42,7 @@ enum-known-fault c = search needs
 returns : tie.Need-returns Inv-loop μ-loop
 returns c =
     let a = c .before .before .before in
-    let e = attr-passing _ _ ∙ ap passing (sym (a .attribute-at .ensures) ∙ ap attributed (c .before .fault .given .1)) in
+    let e = attr-stops _ _ _ (a .attribute-at .ensures) _ (c .before .fault .given .1) in
     sym (a .before .before .loop .inv ∙ many-some _ _ _ _ (a .before .loop-test .taken) ∙ rw e)
 
 returns-2 : tie.Need-returns-2 Inv-loop μ-loop
