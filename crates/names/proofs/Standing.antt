@@ -1,11 +1,11 @@
 -- Things in a row up to the first that can't be read: a loop that counts down, and a row that was read through.
 -- Assumes nothing.
 use Prim.Native.Nat.{ℕ, zero, suc, _-_, _<_, _≤_}
-use mathlib.Core.Path.{_≡_, refl, sym, ap, _∙_}
-use mathlib.Core.List.{List, [], _∷_}
+use mathlib.Core.Path.{_≡_, refl, sym}
+use mathlib.Core.List.{List, []}
 use native.Mathlib.Omega.{arith}
-use Rattle.fields.specs.Fields.{Parsed, got, stop, many}
-use Rattle.fields.proofs.Many.{Split, many-split}
+use Rattle.fields.specs.Fields.{Parsed, got, many}
+use Rattle.fields.proofs.Many.{many-split}
 use Rattle.names.specs.Walks.{with-rest, standing}
 
 module _ {A : Type 0} (p : List ℕ → ℕ → Parsed A) (s : List ℕ) where

@@ -1,40 +1,44 @@
--- What each answer of a subtree's walk needs, over plain lists: a walk of which one side can't be read, a counted row that was
--- read, an RDN's attributes looked for in another's, a name's RDNs walked beside as many of another's. Assumes nothing.
+-- Rows with their counts before them: what a row that was read holds (`row-read`), and of two of them, the first of which may not
+-- be the longer, whether it is (`longer-differs`), whether what stands in both is related (`standing-judged`), whether as many
+-- things, walked side by side, are (`front-judged`). Assumes nothing.
 use Prim.Native.Nat.{ℕ, _<_, _≤_}
 use mathlib.Core.Path.{_≡_, refl, sym, ap, _∙_}
-use mathlib.Core.Bool.{Bool, true, false, cond, _&&_}
+use mathlib.Core.Bool.{Bool, true, cond, _&&_}
 use mathlib.Core.List.{List, [], _∷_}
 use native.Mathlib.Omega.{arith}
 use lib.ListN.{length, take}
+use lib.Dec.{leb}
 use borrow.Author.Tests.{le-leb, lt-leb}
 use Rattle.fields.specs.Fields.{Parsed, got, stop, countP, many, countedP}
 use Rattle.fields.specs.Answers.{passing}
 use Rattle.fields.proofs.Many.{many-length, many-prefix}
-use Rattle.names.specs.Names.{Attr, attrP, rdnP, nameP, places, everyOf, rdnHasName, isSubtreeRdn, isSubtreeOf}
-use Rattle.names.specs.Answers.{bothSame}
+use Rattle.names.specs.Names.{attrP, rdnP, nameP, places}
+use Rattle.names.specs.Answers.{rdnBegun, nameBegun}
 use Rattle.names.specs.Walks.{Fine, walk, standing}
-use Rattle.names.specs.declared.same.Walk.{Walk}
+use Rattle.names.specs.declared.read.Rdn.{Rdn}
+use Rattle.names.specs.declared.read.RdnAt.{RdnAt}
+use Rattle.names.specs.declared.read.RdnAt.the-variants as rdn
+use Rattle.names.specs.declared.read.Name.{Name}
+use Rattle.names.specs.declared.read.NameAt.{NameAt}
+use Rattle.names.specs.declared.read.NameAt.the-variants as name
 use Rattle.names.specs.declared.same.Walk.the-variants.{On, Differ}
 use Rattle.names.proofs.Standing.{standing-whole}
+use Rattle.names.proofs.Walks.{through, walk-both}
 
 -- ---- what the place past a thing tells of the thing
 
 pub passing-stops : {A : Type 0} (x : Parsed A) (r : ℕ) → passing x ≡ stop r → x ≡ stop r
 passing-stops (got a e) r h = let z : _≡_ {A = ℕ} 0 1 = cc in absurd (omega arith)
-passing-stops (stop k) r h = let z : k ≡ r = cc in ap stop z
+passing-stops (stop k) r h = let z : k ≡ r = cc in rw z
 
 pub passing-fine : {A : Type 0} (x : Parsed A) (e : ℕ) → passing x ≡ got tt e → Fine x
 passing-fine (got a f) e h = tt
 passing-fine (stop r) e h = let z : _≡_ {A = ℕ} 0 1 = cc in omega arith
 
--- ---- a count, and so many of a thing
+-- ---- a row that was read
 
 module _ {A : Type 0} (least most : ℕ) (p : List ℕ → ℕ → Parsed A) (s : List ℕ) (at : ℕ) where
-  pub counted-stops : (r : ℕ) → countP least most s at ≡ stop r → countedP least most p s at ≡ stop r
-  unfolding countedP
-  counted-stops r h = rw h
-
-  -- n things from f on, all of which were read
+  -- n things from f on
   pub record Row (n f : ℕ) : Type 0 where
     pub things : List A
     pub end : ℕ
@@ -59,51 +63,55 @@ module _ {A : Type 0} (least most : ℕ) (p : List ℕ → ℕ → Parsed A) (s 
   unfolding countedP
   row-read n f c h = row-of n f (rw c) (many p n s f) refl (rw c at h)
 
--- ---- two RDNs
+-- ---- an RDN and a name that were begun and can be read
 
-module _ (normalise : Bool) (s t : List ℕ) (at bt n f m g : ℕ) (x : Row 1 4 attrP s at n f) (y : Row 1 4 attrP t bt m g) where
-  pub rdn-longer : m < n → walk (isSubtreeRdn normalise) (rdnP s at) (rdnP t bt) ≡ Differ
-  unfolding rdnP isSubtreeRdn
-  rdn-longer h = rw (x .whole, y .whole, lt-leb (length (x .things)) (length (y .things)) (omega (arith, x .count, y .count)))
+pub rdn-row : (s : List ℕ) (at : ℕ) (r : RdnAt) (a : Rdn) (e : ℕ) → rdnBegun r ≡ countP 1 4 s at → r ≡ rdn.Got a
+    → passing (rdnP s at) ≡ got tt e → Row 1 4 attrP s at (a .count) (a .first)
+unfolding rdnP
+rdn-row s at r a e h k u = row-read 1 4 attrP s at _ _ (sym h ∙ ap rdnBegun k) (passing-fine (rdnP s at) e u)
 
-  pub rdn-judged : (e h : ℕ) → passing (rdnP s at) ≡ got tt e → passing (rdnP t bt) ≡ got tt h → n ≤ m
-      → walk (isSubtreeRdn normalise) (rdnP s at) (rdnP t bt)
-      ≡ cond (everyOf (rdnHasName normalise (standing attrP m t g)) (standing attrP n s f)) (On e h) Differ
-  unfolding rdnP isSubtreeRdn
-  rdn-judged e h p q few =
-      let i : x .end ≡ e = cc (x .whole) in
-      let j : y .end ≡ h = cc (y .whole) in
-      rw (x .whole, y .whole, x .stand, y .stand, i, j, le-leb (length (x .things)) (length (y .things)) (omega (arith, x .count, y .count)))
+pub name-row : (s : List ℕ) (at : ℕ) (r : NameAt) (a : Name) → nameBegun r ≡ countP 0 16 s at → r ≡ name.Got a
+    → Fine (nameP s at) → Row 0 16 rdnP s at (a .count) (a .first)
+unfolding nameP
+name-row s at r a h k u = row-read 0 16 rdnP s at _ _ (sym h ∙ ap nameBegun k) u
 
--- ---- two names
+-- ---- two rows, the first no longer than the second
+
+-- no more, and related
+abbrev pub noLonger : {A : Type 0} → (List A → List A → Bool) → List A → List A → Bool
+noLonger q a b = leb (length a) (length b) && q a b
 
 -- what stands past the first list's places does not count
-pub places-take : {A : Type 0} (q : A → A → Bool) (x y : List A) → places q x (take (length x) y) ≡ places q x y
+places-take : {A : Type 0} (q : A → A → Bool) (x y : List A) → places q x (take (length x) y) ≡ places q x y
 unfolding places
 places-take q [] y = refl
 places-take q (a ∷ x) [] = refl
 places-take q (a ∷ x) (b ∷ y) = rw (places-take q x y)
 
--- whether a walk came through
-abbrev pub through : Walk → Bool
-through (On e f) = true
-through Differ = false
+module _ {A : Type 0} {least most : ℕ} {p : List ℕ → ℕ → Parsed A} {s t : List ℕ} {at bt n f m g : ℕ}
+    (x : Row least most p s at n f) (y : Row least most p t bt m g) where
+  pub longer-differs : (q : List A → List A → Bool) → m < n → walk (noLonger q) (countedP least most p s at) (countedP least most p t bt) ≡ Differ
+  longer-differs q h = rw (x .whole, y .whole, lt-leb (length (x .things)) (length (y .things)) (omega (arith, x .count, y .count)))
 
-through-judged : (t : Bool) (e f : ℕ) → through (cond t (On e f) Differ) ≡ t
-through-judged true e f = refl
-through-judged false e f = refl
+  few : n ≤ m → leb (length (x .things)) (length (y .things)) ≡ true
+  few h = le-leb (length (x .things)) (length (y .things)) (omega (arith, x .count, y .count))
 
-module _ (normalise : Bool) (s t : List ℕ) (n f m g : ℕ) (x : Row 0 16 rdnP s 0 n f) (y : Row 0 16 rdnP t 0 m g) where
-  pub name-longer : m < n → bothSame (isSubtreeOf normalise) (nameP s 0) (nameP t 0) ≡ false
-  unfolding nameP isSubtreeOf
-  name-longer h = rw (x .whole, y .whole, lt-leb (length (x .things)) (length (y .things)) (omega (arith, x .count, y .count)))
+  pub standing-judged : (q : List A → List A → Bool) (e i : ℕ) → n ≤ m
+      → passing (countedP least most p s at) ≡ got tt e → passing (countedP least most p t bt) ≡ got tt i
+      → walk (noLonger q) (countedP least most p s at) (countedP least most p t bt)
+      ≡ cond (q (standing p n s f) (standing p m t g)) (On e i) Differ
+  standing-judged q e i h u v =
+      let j : x .end ≡ e = cc (x .whole) in
+      let k : y .end ≡ i = cc (y .whole) in
+      rw (x .whole, y .whole, x .stand, y .stand, j, k, few h)
 
-  pub name-judged : n ≤ m
-      → bothSame (isSubtreeOf normalise) (nameP s 0) (nameP t 0)
-      ≡ through (walk (places (isSubtreeRdn normalise)) (many rdnP n s f) (many rdnP n t g))
-  unfolding nameP isSubtreeOf
-  name-judged few =
-      let front = many-prefix rdnP t n m g (y .things) (y .end) few (y .read) in
-      let there : many rdnP n t g ≡ got (take (length (x .things)) (y .things)) (front .place) = rw (x .count) (front .front) in
-      rw (x .whole, y .whole, x .read, there, le-leb (length (x .things)) (length (y .things)) (omega (arith, x .count, y .count)))
-      (sym (through-judged _ _ _ ∙ places-take (isSubtreeRdn normalise) (x .things) (y .things)))
+  pub front-judged : (q : A → A → Bool) → n ≤ m
+      → through (walk (places q) (many p n s f) (many p n t g))
+      ≡ through (walk (noLonger (places q)) (countedP least most p s at) (countedP least most p t bt))
+  front-judged q h =
+      let front = many-prefix p t n m g (y .things) (y .end) h (y .read) in
+      let there : many p n t g ≡ got (take (length (x .things)) (y .things)) (front .place) = rw (x .count) (front .front) in
+      rw (x .read, there, x .whole, y .whole, few h)
+      (walk-both (places q) (got (x .things) (x .end)) (got (take (length (x .things)) (y .things)) (front .place))
+      ∙ places-take q (x .things) (y .things)
+      ∙ sym (walk-both (places q) (got (x .things) (x .end)) (got (y .things) (y .end))))

@@ -1,10 +1,19 @@
 // Whether an RDN or a name lies under another.
-use crate::read::{attribute_at, name_begins, rdn_at, rdn_begins, Attribute, AttributeAt, NameAt, Rdn, RdnAt};
-use crate::same::{same_attribute, Walk};
+use crate::read::Attribute;
+use crate::read::AttributeAt;
+use crate::read::NameAt;
+use crate::read::Rdn;
+use crate::read::RdnAt;
+use crate::read::attribute_at;
+use crate::read::name_begins;
+use crate::read::rdn_at;
+use crate::read::rdn_begins;
+use crate::same::Walk;
+use crate::same::same_attribute;
 use fields::Past;
 ghost use mathlib.Core.Path.{_≡_};
 ghost use Rattle.fields.specs.Fields.{many};
-ghost use Rattle.names.specs.Names.{attrP, rdnP, nameP, places, someOf, everyOf, sameAttr, rdnHasName, isSubtreeRdn, isSubtreeOf};
+ghost use Rattle.names.specs.Names.{attrP, rdnP, nameP, places, everyOf, rdnHasName, isSubtreeRdn, isSubtreeOf};
 ghost use Rattle.names.specs.Answers.{bothSame};
 ghost use Rattle.names.specs.Walks.{attrOf, Short, Fine, walk, standing};
 
@@ -34,11 +43,9 @@ pub(crate) fn has_name(s: &[u8], rdn: Rdn, t: &[u8], x: Attribute, normalise: bo
 
 // Whether the RDN b of t has every attribute of the RDN a of s.
 pub(crate) fn has_names(s: &[u8], a: Rdn, t: &[u8], b: Rdn, normalise: bool) -> bool
-    ensures {
-        λ r. ⌜ r ≡ everyOf
-            (rdnHasName normalise (standing attrP (b .count) (now (t .entry)) (b .first)))
-            (standing attrP (a .count) (now (s .entry)) (a .first)) ⌝
-    }
+    ensures { λ r. ⌜ r ≡ everyOf
+        (rdnHasName normalise (standing attrP (b .count) (now (t .entry)) (b .first)))
+        (standing attrP (a .count) (now (s .entry)) (a .first)) ⌝ }
 {
     let mut at = a.first;
     let mut rest = a.count;

@@ -1,5 +1,6 @@
+-- `has_name` finds an attribute among those that stand. The invariant: whether what is left has it is whether the whole RDN has it.
+-- Assumes nothing.
 use borrow.Author.Needs.{needs}
-use native.Mathlib.Omega.{arith}
 use mathlib.Core.Path.{_≡_, refl, sym, _∙_}
 use Rattle.names.specs.Names.{attrP, someOf, rdnHasName}
 use Rattle.names.specs.Walks.{attrOf, standing}
@@ -7,13 +8,11 @@ use Rattle.names.proofs.Standing.{standing-none, standing-some}
 use Rattle.names.proofs.Attributes.{attr-read, attr-stops}
 use Rattle.names.proofs.subtree.has_name.Statement.{statement}
 use Rattle.names.proofs.subtree.has_name.Tie as tie
-use Rattle.names.proofs.subtree.has_name.Reads as reads
-use Rattle.names.proofs.subtree.has_name.Lts as lts
-use Rattle.names.proofs.read.attribute_at.Reads as attribute-at-reads
-use Rattle.names.proofs.same.same_attribute.Reads as same-attribute-reads
 
 abbrev Inv-loop : tie.InvT-loop
-Inv-loop s t x normalise at₀ rest₀ at rest = rdnHasName normalise (standing attrP rest₀ s at₀) (attrOf x t) ≡ rdnHasName normalise (standing attrP rest s at) (attrOf x t)
+Inv-loop s t x normalise at₀ rest₀ at rest =
+    rdnHasName normalise (standing attrP rest₀ s at₀) (attrOf x t)
+    ≡ rdnHasName normalise (standing attrP rest s at) (attrOf x t)
 
 abbrev μ-loop : tie.MeasureT-loop
 μ-loop s t x normalise at₀ rest₀ at rest = rest
@@ -37,7 +36,8 @@ unfolding rdnHasName someOf
 returns c =
     let k = c .before .before .before .before .before in
     let a = attr-read _ _ _ (k .attribute-at .ensures) _ (c .before .before .before .a .given .1) in
-    sym (k .before .before .loop .inv ∙ rw (standing-some attrP _ _ _ (k .before .loop-test .taken), a .is, ← c .before .same-attribute .ensures, c .if1 .taken))
+    let yes = sym (c .before .same-attribute .ensures) ∙ c .if1 .taken in
+    sym (k .before .before .loop .inv ∙ rw (standing-some attrP _ _ _ (k .before .loop-test .taken), a .is, yes))
 
 sub-rest : tie.Need-sub-rest Inv-loop μ-loop
 sub-rest c = search needs
@@ -50,7 +50,8 @@ unfolding rdnHasName someOf
 loop-again c =
     let k = c .before .before .before .before .before in
     let a = attr-read _ _ _ (k .attribute-at .ensures) _ (c .before .before .before .a .given .1) in
-    k .before .before .loop .inv ∙ rw (standing-some attrP _ _ _ (k .before .loop-test .taken), a .is, ← c .before .same-attribute .ensures, c .if1 .left)
+    let no = sym (c .before .same-attribute .ensures) ∙ c .if1 .left in
+    k .before .before .loop .inv ∙ rw (standing-some attrP _ _ _ (k .before .loop-test .taken), a .is, no)
 
 enum-told : tie.Need-enum-told Inv-loop μ-loop
 enum-told c = search needs
@@ -64,8 +65,7 @@ returns-2 c =
 
 returns-3 : tie.Need-returns-3 Inv-loop μ-loop
 unfolding rdnHasName someOf
-returns-3 c =
-    sym (c .before .loop .inv ∙ rw (standing-none attrP _ _ _ (c .loop-test .left)))
+returns-3 c = sym (c .before .loop .inv ∙ rw (standing-none attrP _ _ _ (c .loop-test .left)))
 
 pub has-name-spec : {M : Type 1} → statement M
 has-name-spec =
