@@ -40,10 +40,10 @@ pub(crate) fn dn_walk(s: &[u8], at: usize, t: &[u8], bt: usize, normalise: bool)
     ensures { λ r. ⌜ r ≡ walk (sameDn normalise) (nameP (now (s .entry)) at) (nameP (now (t .entry)) bt) ⌝ }
 {
     match name_begins(s, at) {
-        NameAt::Got(a) => match name_begins(t, bt) {
-            NameAt::Got(b) => {
-                if a.count == b.count {
-                    rdns_walk(s, a.first, t, b.first, a.count, normalise)
+        NameAt::Got(left) => match name_begins(t, bt) {
+            NameAt::Got(right) => {
+                if left.count == right.count {
+                    rdns_walk(s, left.first, t, right.first, left.count, normalise)
                 } else {
                     Walk::Differ
                 }

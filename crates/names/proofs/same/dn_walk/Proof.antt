@@ -10,14 +10,14 @@ use Rattle.names.proofs.same.dn_walk.Tie as tie
 name-begins-requires : tie.Need-name-begins-requires
 name-begins-requires c κs = search needs
 
-enum-known-a : tie.Need-enum-known-a
-enum-known-a c = search needs
+enum-known-left : tie.Need-enum-known-left
+enum-known-left c = search needs
 
 name-begins-requires-2 : tie.Need-name-begins-requires-2
 name-begins-requires-2 c κs = search needs
 
-enum-known-b : tie.Need-enum-known-b
-enum-known-b c = search needs
+enum-known-right : tie.Need-enum-known-right
+enum-known-right c = search needs
 
 rdns-walk-requires : tie.Need-rdns-walk-requires
 rdns-walk-requires c κs = search needs
@@ -35,8 +35,8 @@ returns c =
     let a = b .before .before .before .before in
     c .rdns-walk .ensures
     ∙ sym (counted-same (sameRdn _) rdnP _ _ _ _ _ _ _ _ _ _
-    (sym (a .before .before .name-begins .ensures) ∙ ap nameBegun (a .a .given .1))
-    (sym (b .before .before .name-begins2 .ensures) ∙ ap nameBegun (b .b .given .1))
+    (sym (a .before .before .name-begins .ensures) ∙ ap nameBegun (a .left .given .1))
+    (sym (b .before .before .name-begins2 .ensures) ∙ ap nameBegun (b .right .given .1))
     (c .before .if1 .taken))
 
 returns-2 : tie.Need-returns-2
@@ -45,8 +45,8 @@ returns-2 c =
     let b = c .before .before .before .before in
     let a = b .before .before .before .before in
     sym (counted-uneven (sameRdn _) rdnP _ _ _ _ _ _ _ _ _ _
-    (sym (a .before .before .name-begins .ensures) ∙ ap nameBegun (a .a .given .1))
-    (sym (b .before .before .name-begins2 .ensures) ∙ ap nameBegun (b .b .given .1))
+    (sym (a .before .before .name-begins .ensures) ∙ ap nameBegun (a .left .given .1))
+    (sym (b .before .before .name-begins2 .ensures) ∙ ap nameBegun (b .right .given .1))
     (c .if1 .left))
 
 returns-3 : tie.Need-returns-3
@@ -62,9 +62,9 @@ dn-walk-spec =
     tie.close
     (tie.spec
     name-begins-requires
-    enum-known-a
+    enum-known-left
     name-begins-requires-2
-    enum-known-b
+    enum-known-right
     rdns-walk-requires
     enum-told
     enum-told-2
