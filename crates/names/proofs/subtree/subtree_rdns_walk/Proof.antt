@@ -1,6 +1,6 @@
 -- `subtree_rdns_walk` walks two rows of RDNs. The invariant: the walk of what is left is the walk of all. Assumes nothing.
-use borrow.Author.Needs.{needs}
 use mathlib.Core.Path.{_≡_, refl, sym, _∙_}
+use borrow.Author.Needs.{needs}
 use Rattle.fields.specs.Fields.{many}
 use Rattle.names.specs.Names.{rdnP, places, isSubtreeRdn}
 use Rattle.names.specs.Walks.{walk}
@@ -9,7 +9,8 @@ use Rattle.names.proofs.subtree.subtree_rdns_walk.Statement.{statement}
 use Rattle.names.proofs.subtree.subtree_rdns_walk.Tie as tie
 
 abbrev Inv-loop : tie.InvT-loop
-Inv-loop s at t bt n normalise a₀ b₀ rest₀ a b rest = walk (places (isSubtreeRdn normalise)) (many rdnP n s at) (many rdnP n t bt)
+Inv-loop s at t bt n normalise a₀ b₀ rest₀ a b rest =
+    walk (places (isSubtreeRdn normalise)) (many rdnP n s at) (many rdnP n t bt)
     ≡ walk (places (isSubtreeRdn normalise)) (many rdnP rest s a) (many rdnP rest t b)
 
 abbrev μ-loop : tie.MeasureT-loop
