@@ -1,8 +1,8 @@
 -- What each case of an answer stands for, and what a relation of two encoded arguments answers. Assumes nothing.
 use Prim.Native.Nat.{ℕ}
-use mathlib.Core.Bool.{Bool, true, false, cond}
+use mathlib.Core.Bool.{Bool, false, cond}
 use mathlib.Core.List.{List}
-use Rattle.fields.specs.Fields.{Parsed, got, stop, after, spanP, whole}
+use Rattle.fields.specs.Fields.{Parsed, got, stop, after, spanP}
 use Rattle.fields.specs.Answers.{number}
 use Rattle.names.specs.declared.read.Attribute.{Attribute}
 use Rattle.names.specs.declared.read.AttributeAt.{AttributeAt}

@@ -1,8 +1,14 @@
 // Attributes, RDNs and names read from left to right.
-use fields::{count_at, string_at, CountAt, Fault, Past, Span, StringAt};
+use fields::CountAt;
+use fields::Fault;
+use fields::Past;
+use fields::Span;
+use fields::StringAt;
+use fields::count_at;
+use fields::string_at;
 ghost use mathlib.Core.Path.{_≡_};
 ghost use Rattle.fields.specs.Fields.{countP, many};
-ghost use Rattle.fields.specs.Answers.{counted, passed, passing};
+ghost use Rattle.fields.specs.Answers.{passed, passing};
 ghost use Rattle.names.specs.Names.{attrP, rdnP, nameP};
 ghost use Rattle.names.specs.Answers.{attributed, spansP, rdnBegun, nameBegun};
 
@@ -14,8 +20,11 @@ pub struct Attribute {
 
 impl Attribute {
     pub const OID_LEAST: usize = 1;
+
     pub const OID_MOST: usize = 16;
+
     pub const VALUE_LEAST: usize = 0;
+
     pub const VALUE_MOST: usize = 255;
 }
 
@@ -27,6 +36,7 @@ pub struct Rdn {
 
 impl Rdn {
     pub const LEAST: usize = 1;
+
     pub const MOST: usize = 4;
 }
 
@@ -38,6 +48,7 @@ pub struct Name {
 
 impl Name {
     pub const LEAST: usize = 0;
+
     pub const MOST: usize = 16;
 }
 
@@ -58,14 +69,12 @@ pub(crate) enum NameAt {
 
 // The attribute at a place; the place past it is the end of its value.
 pub fn attribute_at(file: &[u8], at: usize) -> AttributeAt
-    ensures {
-        λ r. do
-            oid-least ← ⟦Attribute::OID_LEAST⟧ .entry
-            oid-most ← ⟦Attribute::OID_MOST⟧ .entry
-            value-least ← ⟦Attribute::VALUE_LEAST⟧ .entry
-            value-most ← ⟦Attribute::VALUE_MOST⟧ .entry
-            ⌜ attributed r ≡ spansP oid-least oid-most value-least value-most (now (file .entry)) at ⌝
-    }
+    ensures { λ r. do
+      oid-least ← ⟦Attribute::OID_LEAST⟧ .entry
+      oid-most ← ⟦Attribute::OID_MOST⟧ .entry
+      value-least ← ⟦Attribute::VALUE_LEAST⟧ .entry
+      value-most ← ⟦Attribute::VALUE_MOST⟧ .entry
+      ⌜ attributed r ≡ spansP oid-least oid-most value-least value-most (now (file .entry)) at ⌝ }
 {
     let oid = match string_at(file, at, Attribute::OID_LEAST, Attribute::OID_MOST) {
         StringAt::Got(span) => span,

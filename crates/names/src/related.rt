@@ -1,9 +1,20 @@
 // The relations of two whole encoded arguments. The first argument is judged through, bytes left over included,
 // before the second is looked at.
-use crate::read::{attribute_at, name_at, rdn_at, rdn_begins, AttributeAt, RdnAt};
-use crate::same::{attr_walk, dn_walk, rdn_walk, Walk};
-use crate::subtree::{has_name, subtree, subtree_rdn_walk};
-use fields::{Fault, Past};
+use crate::read::AttributeAt;
+use crate::read::RdnAt;
+use crate::read::attribute_at;
+use crate::read::name_at;
+use crate::read::rdn_at;
+use crate::read::rdn_begins;
+use crate::same::Walk;
+use crate::same::attr_walk;
+use crate::same::dn_walk;
+use crate::same::rdn_walk;
+use crate::subtree::has_name;
+use crate::subtree::subtree;
+use crate::subtree::subtree_rdn_walk;
+use fields::Fault;
+use fields::Past;
 ghost use mathlib.Core.Path.{_≡_};
 ghost use Rattle.fields.specs.Fields.{whole};
 ghost use Rattle.fields.specs.Answers.{passed, passing};

@@ -1,6 +1,6 @@
 -- `attributes_at` ends where so many attributes end. The invariant: what is left to pass ends where all of them do. Assumes nothing.
 use borrow.Author.Needs.{needs}
-use mathlib.Core.Path.{_≡_, refl, sym, ap, _∙_}
+use mathlib.Core.Path.{_≡_, refl, sym, _∙_}
 use Rattle.fields.specs.Fields.{many}
 use Rattle.fields.specs.Answers.{passing}
 use Rattle.fields.proofs.Many.{many-none, many-some}

@@ -1,4 +1,6 @@
-use mathlib.Core.Path.{_≡_, sym, ap, _∙_}
+-- `rdn_has_name` answers the first fault of the first bad argument, else whether the RDN has the attribute; the arms for arguments
+-- that can no longer be bad are never taken. Assumes nothing.
+use mathlib.Core.Path.{sym, ap, _∙_}
 use Rattle.names.specs.Names.{attrP, rdnP}
 use Rattle.names.specs.Answers.{rdnBegun}
 use Rattle.names.proofs.Attributes.{attr-read, attr-stops}
@@ -6,13 +8,6 @@ use Rattle.names.proofs.Whole.{holds, first-bad, second-bad, has-found,
 use borrow.Author.Needs.{needs}
 use Rattle.names.proofs.related.rdn_has_name.Statement.{statement}
 use Rattle.names.proofs.related.rdn_has_name.Tie as tie
-use Rattle.names.proofs.related.rdn_has_name.Reads as reads
-use Rattle.names.proofs.related.rdn_has_name.Lts as lts
-use Rattle.names.proofs.read.attribute_at.Reads as attribute-at-reads
-use Rattle.names.proofs.read.rdn_begins.Reads as rdn-begins-reads
-use Rattle.names.proofs.related.whole_attribute.Reads as whole-attribute-reads
-use Rattle.names.proofs.related.whole_rdn.Reads as whole-rdn-reads
-use Rattle.names.proofs.subtree.has_name.Reads as has-name-reads
 
 whole-rdn-requires : tie.Need-whole-rdn-requires
 whole-rdn-requires c κs = search needs
@@ -71,7 +66,7 @@ returns-3 c =
     let b = a .before .before .before in
     let e = b .before .before .before in
     has-found _ _ _ _ _ (holds rdnP _ _ (e .before .before .whole-rdn .ensures) _ (e .enum-told .given .1)) (holds attrP _ _ (b .before .before .whole-attribute .ensures) _ (b .enum-told2 .given .1)) _ _ (sym (a .before .before .rdn-begins .ensures) ∙ ap rdnBegun (a .a .given .1)) _
-      (attr-read _ _ _ (x .before .before .attribute-at .ensures) _ (x .x .given .1)) _ (sym (c .if1 .taken) ∙ c .before .has-name .ensures)
+    (attr-read _ _ _ (x .before .before .attribute-at .ensures) _ (x .x .given .1)) _ (sym (c .if1 .taken) ∙ c .before .has-name .ensures)
 
 returns-4 : tie.Need-returns-4
 returns-4 c =
@@ -80,7 +75,7 @@ returns-4 c =
     let b = a .before .before .before in
     let e = b .before .before .before in
     has-found _ _ _ _ _ (holds rdnP _ _ (e .before .before .whole-rdn .ensures) _ (e .enum-told .given .1)) (holds attrP _ _ (b .before .before .whole-attribute .ensures) _ (b .enum-told2 .given .1)) _ _ (sym (a .before .before .rdn-begins .ensures) ∙ ap rdnBegun (a .a .given .1)) _
-      (attr-read _ _ _ (x .before .before .attribute-at .ensures) _ (x .x .given .1)) _ (sym (c .if1 .left) ∙ c .before .has-name .ensures)
+    (attr-read _ _ _ (x .before .before .attribute-at .ensures) _ (x .x .given .1)) _ (sym (c .if1 .left) ∙ c .before .has-name .ensures)
 
 returns-5 : tie.Need-returns-5
 returns-5 c =

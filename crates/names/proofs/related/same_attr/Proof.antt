@@ -1,5 +1,5 @@
 -- `same_attr` answers the first fault of the first bad argument, else what the walk of the two finds. Assumes nothing.
-use mathlib.Core.Path.{_≡_, _∙_}
+use mathlib.Core.Path.{_∙_}
 use borrow.Author.Needs.{needs}
 use Rattle.names.proofs.Whole.{holds, first-bad, second-bad, walked}
 use Rattle.names.proofs.related.same_attr.Statement.{statement}

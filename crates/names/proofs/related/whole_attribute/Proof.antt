@@ -1,5 +1,5 @@
 -- `whole_attribute` judges an argument through: its two strings, then bytes left over. Assumes nothing.
-use mathlib.Core.Path.{_≡_, sym, ap, _∙_}
+use mathlib.Core.Path.{sym, ap}
 use borrow.Author.Needs.{needs}
 use Rattle.fields.specs.Answers.{passing}
 use Rattle.names.proofs.Attributes.{attr-read, attr-stops}

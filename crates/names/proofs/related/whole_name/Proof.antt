@@ -1,5 +1,5 @@
 -- `whole_name` judges an argument through: its RDNs, then bytes left over. Assumes nothing.
-use mathlib.Core.Path.{_≡_, sym, ap, _∙_}
+use mathlib.Core.Path.{sym, ap, _∙_}
 use borrow.Author.Needs.{needs}
 use Rattle.fields.specs.Answers.{passed}
 use Rattle.names.proofs.Whole.{left-over, fills, bad}
