@@ -1,7 +1,6 @@
 // Address ranges (RFC 5280, 4.2.1.10): a network address and a mask of the same length.
 ghost use mathlib.Core.Path.{_≡_};
-ghost use Prim.Native.Nat.{_+_};
-ghost use lib.ListN.{length, take, drop};
+ghost use lib.ListN.{length};
 ghost use Rattle.keys.specs.Address.{ipAddrInRange, masked};
 
 // An address, of as many bytes as one of the two.

@@ -1,3 +1,4 @@
+pub mod Lowered
 pub mod Same
 pub mod Form
 pub mod Star
