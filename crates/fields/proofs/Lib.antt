@@ -1,3 +1,5 @@
 pub mod Counts
 pub mod Strings
 pub mod Big
+pub mod Many
+pub mod Pinned

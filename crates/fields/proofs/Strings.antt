@@ -1,12 +1,19 @@
--- A string's span by its count, and a span's bytes: what each answer of a reader of strings needs.
--- Assumes nothing.
+-- A string's span by its length, and a span's bytes: one law for each answer of a reader of strings, what a string that was
+-- read tells, and the string by its span. Assumes nothing.
 use Prim.Native.Nat.{ℕ, _+_, _-_, _<_, _≤_}
-use mathlib.Core.Path.{_≡_}
+use mathlib.Core.Path.{_≡_, refl, ap, _∙_}
+use mathlib.Core.Bool.{Bool, true, false, cond}
 use mathlib.Core.List.{List, []}
-use lib.ListN.{length, take, drop}
-use borrow.Author.Tests.{le-leb, lt-leb}
-use Rattle.fields.specs.Fields.{got, stop, countP, spanP, bytesOf}
+use native.Mathlib.Omega.{arith}
+use lib.ListN.{length, take, drop, length-drop}
+use lib.Seq.{length-take-le}
+use lib.Dec.{leb}
+use borrow.Author.Tests.{leb-true, le-leb, lt-leb}
+use Rattle.fields.specs.Fields.{Parsed, got, stop, after, countP, spanP, bytesOf, stringP}
 use Rattle.fields.specs.declared.string.Span.{Span}
+use Rattle.fields.proofs.Counts.{count-read}
+
+-- ---- the span of a string
 
 module _ (least most : ℕ) (s : List ℕ) (at : ℕ) where
   pub span-stops : (r : ℕ) → countP least most s at ≡ stop r → spanP least most s at ≡ stop r
@@ -22,6 +29,8 @@ module _ (least most : ℕ) (s : List ℕ) (at : ℕ) where
   unfolding spanP
   span-got n e h there = rw (h, le-leb (e + n) (length s) there)
 
+-- ---- the bytes of a span
+
 module _ (p : Span) (s : List ℕ) where
   pub bytes-turned : p .end < p .start → bytesOf p s ≡ []
   unfolding bytesOf
@@ -34,3 +43,61 @@ module _ (p : Span) (s : List ℕ) where
   pub bytes-within : p .start ≤ p .end → p .end ≤ length s → bytesOf p s ≡ take (p .end - p .start) (drop (p .start) s)
   unfolding bytesOf
   bytes-within h l = rw (le-leb (p .start) (p .end) h, le-leb (p .end) (length s) l)
+
+  pub bytes-length : p .start ≤ p .end → p .end ≤ length s → length (bytesOf p s) ≡ p .end - p .start
+  bytes-length h l =
+      let k : p .end - p .start ≤ length (drop (p .start) s) = simp length-drop (omega arith) in
+      ap length (bytes-within h l) ∙ length-take-le (p .end - p .start) (drop (p .start) s) k
+
+-- ---- a string that was read
+
+-- the span p was read, and e is the place past it
+pub record SpanRead (least most : ℕ) (s : List ℕ) (at : ℕ) (p : Span) (e : ℕ) : Type 0 where
+  pub starts : p .start ≡ at + 1
+  pub ends : p .end ≡ e
+  pub ordered : p .start ≤ p .end
+  pub within : p .end ≤ length s
+  pub enough : least ≤ length (bytesOf p s)
+  pub few : length (bytesOf p s) ≤ most
+  pub bytes : bytesOf p s ≡ take (p .end - p .start) (drop (p .start) s)
+
+module _ (least most : ℕ) (s : List ℕ) (at : ℕ) (p : Span) (e : ℕ) where
+  by-bytes : (n b : ℕ) → countP least most s at ≡ got n b → (there : Bool) → leb (b + n) (length s) ≡ there
+      → cond there (got (record { start = b; end = b + n }) (b + n)) (stop 6) ≡ got p e → SpanRead least most s at p e
+  by-bytes n b c true t h =
+      let r = count-read least most s at n b c in
+      let q : record { start = b; end = b + n } ≡ p = cc in
+      let starts : b ≡ p .start = ap (λ (x : Span). x .start) q in
+      let ends : b + n ≡ p .end = ap (λ (x : Span). x .end) q in
+      let past : b + n ≡ e = cc in
+      let ordered : p .start ≤ p .end = omega arith in
+      let within : p .end ≤ length s = omega (arith, leb-true) in
+      let long = bytes-length p s ordered within in
+      record {
+        starts = omega arith;
+        ends = omega arith;
+        ordered = ordered;
+        within = within;
+        enough = omega arith;
+        few = omega arith;
+        bytes = bytes-within p s ordered within;
+      }
+  by-bytes n b c false t h = let z : _≡_ {A = ℕ} 0 1 = cc in absurd (omega arith)
+
+  by-count : (x : Parsed ℕ) → countP least most s at ≡ x
+      → after x (λ n b. cond (leb (b + n) (length s)) (got (record { start = b; end = b + n }) (b + n)) (stop 6)) ≡ got p e
+      → SpanRead least most s at p e
+  by-count (got n b) c h = by-bytes n b c _ refl h
+  by-count (stop r) c h = let z : _≡_ {A = ℕ} 0 1 = cc in absurd (omega arith)
+
+  pub span-read : spanP least most s at ≡ got p e → SpanRead least most s at p e
+  unfolding spanP
+  span-read h = by-count _ refl h
+
+  pub string-got : spanP least most s at ≡ got p e → stringP least most s at ≡ got (bytesOf p s) e
+  unfolding stringP
+  string-got h = rw h
+
+pub string-stops : (least most : ℕ) (s : List ℕ) (at r : ℕ) → spanP least most s at ≡ stop r → stringP least most s at ≡ stop r
+unfolding stringP
+string-stops least most s at r h = rw h

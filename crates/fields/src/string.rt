@@ -23,9 +23,6 @@ pub fn string_at(file: &[u8], at: usize, least: usize, most: usize) -> StringAt
 {
     match count_at(file, at, least, most) {
         CountAt::Got { count, next } => {
-            if file.len() < next {
-                return StringAt::Stop(Fault::CutShort);
-            }
             if file.len() - next < count {
                 return StringAt::Stop(Fault::CutShort);
             }
