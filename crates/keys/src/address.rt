@@ -14,7 +14,7 @@ impl Address {
 
 // Whether an address lies in a range of its own kind. The mask is any bytes.
 pub fn ip_addr_in_range(range: &[u8], addr: &[u8]) -> bool
-    ensures { λ r. do ⌜ r ≡ ipAddrInRange (← ⟦Address::V4⟧ .entry) (← ⟦Address::V6⟧ .entry) (now (range .entry)) (now (addr .entry)) ⌝ }
+    ensures { λ r. ⌜ r ≡ ipAddrInRange (now (range .entry)) (now (addr .entry)) ⌝ }
 {
     let width = addr.len();
     if width != Address::V4 {
