@@ -65,16 +65,16 @@ module _ (width : ℕ) (range addr : List ℕ) where
         rw a (held r′ a)
     go false e = not-held (λ _. eqb-false _ _ e)
 
-module _ (v4 v6 : ℕ) (range addr : List ℕ) where
-  pub outside : (length range ≡ 2 * v4 → length addr ≡ v4 → ⊥) → (length range ≡ 2 * v6 → length addr ≡ v6 → ⊥)
-      → ipAddrInRange v4 v6 range addr ≡ false
+module _ (range addr : List ℕ) where
+  pub outside : (length range ≡ 2 * 4 → length addr ≡ 4 → ⊥) → (length range ≡ 2 * 16 → length addr ≡ 16 → ⊥)
+      → ipAddrInRange range addr ≡ false
   unfolding ipAddrInRange
-  outside n m = rw (not-held v4 range addr n, not-held v6 range addr m)
+  outside n m = rw (not-held 4 range addr n, not-held 16 range addr m)
 
-  pub inside : length range ≡ 2 * length addr → (length addr ≡ v4) ⊎ (length addr ≡ v6)
-      → ipAddrInRange v4 v6 range addr ≡ masked (take (length addr) range) (drop (length addr) range) addr
+  pub inside : length range ≡ 2 * length addr → (length addr ≡ 4) ⊎ (length addr ≡ 16)
+      → ipAddrInRange range addr ≡ masked (take (length addr) range) (drop (length addr) range) addr
   unfolding ipAddrInRange
-  inside r k = rw (by-kind v4 range addr r, by-kind v6 range addr r) (⊎-elim (λ a. rw (eq-eqb (length addr) v4 a) (one (eqb (length addr) v6) _)) (λ a. rw (eq-eqb (length addr) v6 a) (other (eqb (length addr) v4) _)) k) where
+  inside r k = rw (by-kind 4 range addr r, by-kind 16 range addr r) (⊎-elim (λ a. rw (eq-eqb (length addr) 4 a) (one (eqb (length addr) 16) _)) (λ a. rw (eq-eqb (length addr) 16 a) (other (eqb (length addr) 4) _)) k) where
     one : (q m : Bool) → m || (q && m) ≡ m
     one q true = refl
     one true false = refl

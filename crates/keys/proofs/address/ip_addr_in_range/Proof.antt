@@ -10,13 +10,13 @@ use Rattle.keys.proofs.address.ip_addr_in_range.Statement.{statement}
 use Rattle.keys.proofs.address.ip_addr_in_range.Tie as tie
 
 returns : tie.Need-returns
-returns c = sym (outside _ _ _ _ (λ r a. omega arith) (λ r a. omega arith))
+returns c = sym (outside _ _ (λ r a. omega arith) (λ r a. omega arith))
 
 mul-if3 : tie.Need-mul-if3
 mul-if3 c = search needs
 
 returns-2 : tie.Need-returns-2
-returns-2 c = sym (outside _ _ _ _ (λ r a. omega arith) (λ r a. omega arith))
+returns-2 c = sym (outside _ _ (λ r a. omega arith) (λ r a. omega arith))
 
 slice-aggregate-agrees : tie.Need-slice-aggregate-agrees
 slice-aggregate-agrees c = simp length-take (omega arith)
@@ -34,7 +34,7 @@ agrees-requires : tie.Need-agrees-requires
 agrees-requires c κs = (simp (length-take, length-drop) (omega arith), simp length-take (omega arith))
 
 returns-3 : tie.Need-returns-3
-returns-3 c = rw tail at (c .agrees .ensures) ∙ sym (inside _ _ _ _ (c .before .before .before .if3 .left) (⊎-elim (λ w. inr (w .1 .left)) (λ w. inl (w .left)) (c .before .before .before .before .if1 .came)))
+returns-3 c = rw tail at (c .agrees .ensures) ∙ sym (inside _ _ (c .before .before .before .if3 .left) (⊎-elim (λ w. inr (w .1 .left)) (λ w. inl (w .left)) (c .before .before .before .before .if1 .came)))
 
 pub ip-addr-in-range-spec : {M : Type 1} → statement M
 ip-addr-in-range-spec =
