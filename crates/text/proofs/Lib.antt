@@ -4,3 +4,5 @@ pub mod Form
 pub mod Star
 pub mod Told
 pub mod Pinned
+pub mod Each
+pub mod Upstream
