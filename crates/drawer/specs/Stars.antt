@@ -29,7 +29,7 @@ pub data Question : Type 0 where
 unfoldable pub answer : Question → Bool
 answer (normal-form s n) = same (normal (ascii s)) (ascii n)
 answer (matches p n) = matchName (ascii p) (ascii n)
-answer (in-range r a) = ipAddrInRange 4 16 r a
+answer (in-range r a) = ipAddrInRange r a
 answer (subtree-rdn a b) = isSubtreeRdn true a b
 
 pub record Case : Type 0 where

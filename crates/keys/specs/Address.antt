@@ -17,6 +17,6 @@ masked (n ∷ net) (m ∷ mask) (a ∷ addr) = eqb (bitAnd n m) (bitAnd a m) && 
 unfoldable pub holds : ℕ → List ℕ → List ℕ → Bool
 holds width range addr = eqb (length range) (2 * width) && eqb (length addr) width && masked (take width range) (drop width range) addr
 
--- of the one kind or of the other
-unfoldable pub ipAddrInRange : ℕ → ℕ → List ℕ → List ℕ → Bool
-ipAddrInRange v4 v6 range addr = holds v4 range addr || holds v6 range addr
+-- an address of 4 bytes and a range of 8, or of 16 and 32
+unfoldable pub ipAddrInRange : List ℕ → List ℕ → Bool
+ipAddrInRange range addr = holds 4 range addr || holds 16 range addr

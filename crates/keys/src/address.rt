@@ -1,7 +1,6 @@
 // Address ranges (RFC 5280, 4.2.1.10): a network address and a mask of the same length.
 ghost use mathlib.Core.Path.{_≡_};
-ghost use Prim.Native.Nat.{_+_};
-ghost use lib.ListN.{length, take, drop};
+ghost use lib.ListN.{length};
 ghost use Rattle.keys.specs.Address.{ipAddrInRange, masked};
 
 // An address, of as many bytes as one of the two.
@@ -15,7 +14,7 @@ impl Address {
 
 // Whether an address lies in a range of its own kind. The mask is any bytes.
 pub fn ip_addr_in_range(range: &[u8], addr: &[u8]) -> bool
-    ensures { λ r. do ⌜ r ≡ ipAddrInRange (← ⟦Address::V4⟧ .entry) (← ⟦Address::V6⟧ .entry) (now (range .entry)) (now (addr .entry)) ⌝ }
+    ensures { λ r. ⌜ r ≡ ipAddrInRange (now (range .entry)) (now (addr .entry)) ⌝ }
 {
     let width = addr.len();
     if width != Address::V4 {

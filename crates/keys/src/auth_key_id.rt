@@ -1,6 +1,5 @@
 // Authority key identifiers (RFC 5280, 4.2.1.1).
 ghost use mathlib.Core.Path.{_≡_};
-ghost use mathlib.Core.Option.{some};
 ghost use Rattle.keys.specs.AuthKeyId.{given, checkAuthKeyId};
 
 // Whether what a subject says of its issuer's key fits the issuer: the subject's authority key id and authority serial,
@@ -15,9 +14,9 @@ pub fn check_auth_key_id(
     serial: &[u8],
 ) -> bool
     ensures { λ r. ⌜ r ≡ checkAuthKeyId
-        (given has_akid (now (akid .entry)))
-        (given has_aserial (now (aserial .entry)))
-        (given has_skid (now (skid .entry)))
+        (given «has_akid» (now (akid .entry)))
+        (given «has_aserial» (now (aserial .entry)))
+        (given «has_skid» (now (skid .entry)))
         (now (serial .entry)) ⌝ }
 {
     if has_akid && has_skid {

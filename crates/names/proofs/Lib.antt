@@ -3,3 +3,5 @@ pub mod Standing
 pub mod Subtrees
 pub mod Walks
 pub mod Whole
+pub mod Upstream
+pub mod Pinned

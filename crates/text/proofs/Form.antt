@@ -1,4 +1,4 @@
--- The loop of `normalize_string` on plain lists: what holds at its head, a law for each arm, and what holds at its end.
+-- The loop of `normalize_string` on plain lists: what holds at its head, a law for each arm, and what each return answers.
 -- Assumes nothing.
 use Prim.Native.Nat.{ℕ, _+_, _<_, _≤_}
 use mathlib.Core.Path.{_≡_, refl, sym, ap, _∙_}
@@ -8,10 +8,11 @@ use native.Mathlib.Numerals.{add-one}
 use native.Mathlib.Omega.{arith}
 use lib.ListN.{length, getD, set, take, drop, length-set, take-append-drop, drop-of-length-le}
 use lib.Seq.{drop-cons, take-suc-set, drop-set-lt, drop-drop, length-take-le}
-use lib.Dec.{eqb}
-use borrow.Author.Tests.{eq-eqb, ne-eqb}
+use lib.Dec.{ltb, eqb}
+use borrow.Author.Tests.{lt-ltb, le-ltb, eq-eqb, ne-eqb}
 use Rattle.text.specs.Bytes.{lowered}
-use Rattle.text.specs.Normal.{normalFrom, normal}
+use Rattle.text.specs.Normal.{normalFrom, normal, said, normalized, written}
+use Rattle.text.specs.declared.normal.Normalized.the-variants.{Length, NoRoom}
 
 -- what is written and what is left to write are the normal form; the room after that is as it was
 pub record State (s out₀ out : List ℕ) (i n : ℕ) (nw ws : Bool) : Type 0 where
@@ -25,6 +26,10 @@ pub record State (s out₀ out : List ℕ) (i n : ℕ) (nw ws : Bool) : Type 0 w
 pub start : (s out : List ℕ) → length s ≤ length out → State s out out 0 0 false false
 unfolding normal
 start s out h = record { left = refl; kept = refl; long = refl; room = h; past = omega arith; fewer = omega arith }
+
+pub refused : (s out : List ℕ) → length out < length s → (said NoRoom ≡ normalized s out) × (out ≡ written s out)
+unfolding normalized written
+refused s out h = (rw (lt-ltb _ _ h), rw (lt-ltb _ _ h))
 
 -- ---- one byte written at n
 
@@ -106,8 +111,14 @@ module _ (s out₀ out : List ℕ) (i n : ℕ) (nw ws : Bool) (h : State s out�
   unfolding normalFrom
   whole = sym (append-nil _) ∙ ap (λ l. take n out ++ normalFrom nw ws l) (sym (drop-of-length-le s m)) ∙ h .left
 
-  pub count : length (normal s) ≡ n
+  count : length (normal s) ≡ n
   count = ap length (sym whole) ∙ length-take-le n out (omega (arith, h .long, h .room, h .past, h .fewer))
 
-  pub filled : out ≡ normal s ++ drop (length (normal s)) out₀
+  filled : out ≡ normal s ++ drop (length (normal s)) out₀
   filled = sym (take-append-drop n out) ∙ ap (λ l. l ++ drop n out) whole ∙ ap (λ l. normal s ++ l) (h .kept) ∙ ap (λ k. normal s ++ drop k out₀) (sym count)
+
+  pub done : (said (Length n) ≡ normalized s out₀) × (out ≡ written s out₀)
+  unfolding normalized written
+  done =
+      let f : ltb (length out₀) (length s) ≡ false = le-ltb _ _ (h .room) in
+      (rw (f, count), rw f filled)

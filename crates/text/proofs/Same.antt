@@ -1,43 +1,70 @@
--- The laws of `same` and `hasByte` as their loops go, and what `&l[k..]` reads. Assumes nothing.
+-- The laws of byte strings compared, as the loops and returns of `src/bytes.rt` need them, and what `&l[k..]` reads.
+-- Assumes nothing.
 use Prim.Native.Nat.{ℕ, _+_, _-_, _<_, _≤_}
-use mathlib.Core.Path.{_≡_, refl, ap}
-use mathlib.Core.Bool.{Bool, true, false, _&&_, _||_}
+use mathlib.Core.Path.{_≡_, refl}
+use mathlib.Core.Bool.{Bool, true, false}
 use mathlib.Core.List.{List}
 use native.Mathlib.Numerals.{add-one}
 use native.Mathlib.Omega.{arith}
 use lib.ListN.{length, getD, take, drop, length-drop, drop-of-length-le}
 use lib.Seq.{drop-cons, take-all}
-use lib.Dec.{eqb}
-use Rattle.text.specs.Bytes.{same, hasByte, same-sound}
+use borrow.Author.Tests.{eq-eqb, ne-eqb, le-leb, lt-leb}
+use Rattle.text.specs.Bytes.{same, hasByte, startsWith, endsWith, same-sound}
 
--- lists of two lengths
-pub same-long : (a b : List ℕ) → (length a ≡ length b → ⊥) → same a b ≡ false
-same-long a b n = go (same a b) refl where
+-- ---- `same`
+
+pub differ : (a b : List ℕ) → (a ≡ b → ⊥) → same a b ≡ false
+differ a b n = go (same a b) refl where
   go : (t : Bool) → same a b ≡ t → t ≡ false
-  go true e = absurd (n (ap length (same-sound a b e)))
+  go true e = absurd (n (same-sound a b e))
   go false e = refl
 
--- the bytes at i, and what follows them
-pub same-step : (a b : List ℕ) (i : ℕ) → length a ≡ length b → i < length a
-    → same (drop i a) (drop i b) ≡ eqb (getD a i 0) (getD b i 0) && same (drop (i + 1) a) (drop (i + 1) b)
-unfolding same
-same-step a b i e p =
-    let q : i < length b = omega arith in
-    rw (add-one, drop-cons a i 0, drop-cons b i 0)
+module _ (a b : List ℕ) (i : ℕ) (long : length a ≡ length b) where
+  pub same-next : i < length a → getD a i 0 ≡ getD b i 0 → same (drop i a) (drop i b) ≡ same (drop (i + 1) a) (drop (i + 1) b)
+  unfolding same
+  same-next p e =
+      let q : i < length b = omega arith in
+      rw (add-one, drop-cons a i 0, drop-cons b i 0, eq-eqb _ _ e)
 
-pub same-end : (a b : List ℕ) (i : ℕ) → length a ≡ length b → length a ≤ i → same (drop i a) (drop i b) ≡ true
-unfolding same
-same-end a b i e p =
-    let q : length b ≤ i = omega arith in
-    rw (drop-of-length-le a p, drop-of-length-le b q)
+  pub same-end : length a ≤ i → same (drop i a) (drop i b) ≡ true
+  unfolding same
+  same-end p =
+      let q : length b ≤ i = omega arith in
+      rw (drop-of-length-le a p, drop-of-length-le b q)
 
-pub has-step : (c : ℕ) (l : List ℕ) (i : ℕ) → i < length l → hasByte c (drop i l) ≡ eqb (getD l i 0) c || hasByte c (drop (i + 1) l)
-unfolding hasByte
-has-step c l i p = rw (add-one, drop-cons l i 0)
+-- ---- `hasByte`
 
-pub has-end : (c : ℕ) (l : List ℕ) (i : ℕ) → length l ≤ i → hasByte c (drop i l) ≡ false
-unfolding hasByte
-has-end c l i p = rw (drop-of-length-le l p)
+module _ (c : ℕ) (l : List ℕ) (i : ℕ) where
+  pub has-here : i < length l → getD l i 0 ≡ c → hasByte c (drop i l) ≡ true
+  unfolding hasByte
+  has-here p e = rw (drop-cons l i 0, eq-eqb _ _ e)
+
+  pub has-next : i < length l → (getD l i 0 ≡ c → ⊥) → hasByte c (drop i l) ≡ hasByte c (drop (i + 1) l)
+  unfolding hasByte
+  has-next p n = rw (add-one, drop-cons l i 0, ne-eqb _ _ n)
+
+  pub has-end : length l ≤ i → hasByte c (drop i l) ≡ false
+  unfolding hasByte
+  has-end p = rw (drop-of-length-le l p)
+
+-- ---- `startsWith` and `endsWith`
+
+module _ (s r : List ℕ) where
+  pub starts-short : length s < length r → startsWith s r ≡ false
+  unfolding startsWith
+  starts-short h = rw (lt-leb _ _ h)
+
+  pub starts-long : length r ≤ length s → startsWith s r ≡ same (take (length r) s) r
+  unfolding startsWith
+  starts-long h = rw (le-leb _ _ h)
+
+  pub ends-short : length s < length r → endsWith s r ≡ false
+  unfolding endsWith
+  ends-short h = rw (lt-leb _ _ h)
+
+  pub ends-long : length r ≤ length s → endsWith s r ≡ same (drop (length s - length r) s) r
+  unfolding endsWith
+  ends-long h = rw (le-leb _ _ h)
 
 -- `&l[k..]`
 pub tail : (k : ℕ) (l : List ℕ) → take (length l - k) (drop k l) ≡ drop k l

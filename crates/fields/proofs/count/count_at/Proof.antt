@@ -8,7 +8,7 @@ use Rattle.fields.proofs.count.count_at.Statement.{statement}
 use Rattle.fields.proofs.count.count_at.Tie as tie
 
 returns : tie.Need-returns
-returns c = sym (count-cut _ _ _ _ (c .if1 .taken))
+returns c = sym (count-cut _ _ _ _ (omega arith))
 
 shared-slice-read-count : tie.Need-shared-slice-read-count
 shared-slice-read-count c = search needs
@@ -17,16 +17,16 @@ cast-count : tie.Need-cast-count
 cast-count c = omega (arith, c .shared-slice-known .given (c .before .before .args .at))
 
 returns-2 : tie.Need-returns-2
-returns-2 c = sym (count-below _ _ _ _ (c .before .before .if1 .left) (c .if2 .taken))
+returns-2 c = sym (count-below _ _ _ _ (omega arith) (omega arith))
 
 returns-3 : tie.Need-returns-3
-returns-3 c = sym (count-above _ _ _ _ (c .before .before .before .if1 .left) (c .before .if2 .left) (c .if3 .taken))
+returns-3 c = sym (count-above _ _ _ _ (omega arith) (omega arith) (omega arith))
 
 add-t6 : tie.Need-add-t6
 add-t6 c = search needs
 
 returns-4 : tie.Need-returns-4
-returns-4 c = sym (count-got _ _ _ _ (c .before .before .before .if1 .left) (c .before .if2 .left) (c .if3 .left))
+returns-4 c = sym (count-got _ _ _ _ (omega arith) (omega arith) (omega arith))
 
 pub count-at-spec : {M : Type 1} → statement M
 count-at-spec =

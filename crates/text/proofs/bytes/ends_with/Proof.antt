@@ -1,15 +1,12 @@
 -- `ends_with` meets its contract, by that of `equal`. Assumes nothing.
-use mathlib.Core.Path.{_∙_}
-use borrow.Author.Tests.{le-leb, lt-leb}
-use Rattle.text.specs.Bytes.{endsWith}
-use Rattle.text.proofs.Same.{tail}
+use mathlib.Core.Path.{sym, _∙_}
 use borrow.Author.Needs.{needs}
+use Rattle.text.proofs.Same.{ends-short, ends-long, tail}
 use Rattle.text.proofs.bytes.ends_with.Statement.{statement}
 use Rattle.text.proofs.bytes.ends_with.Tie as tie
 
 returns : tie.Need-returns
-unfolding endsWith
-returns c = simp (lt-leb _ _ (c .if1 .taken))
+returns c = sym (ends-short _ _ (c .if1 .taken))
 
 sub-k : tie.Need-sub-k
 sub-k c = search needs
@@ -27,8 +24,7 @@ equal-requires : tie.Need-equal-requires
 equal-requires c κs = search needs
 
 returns-2 : tie.Need-returns-2
-unfolding endsWith
-returns-2 c = rw tail at (c .equal .ensures) ∙ simp (le-leb _ _ (c .before .before .if1 .left))
+returns-2 c = rw tail at (c .equal .ensures) ∙ sym (ends-long _ _ (c .before .before .if1 .left))
 
 pub ends-with-spec : {M : Type 1} → statement M
 ends-with-spec =

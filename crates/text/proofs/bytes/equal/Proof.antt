@@ -1,12 +1,11 @@
 -- `equal` meets its contract. The loop's invariant: the lengths agree, and the strings are the same where what is left of them
 -- is. The measure is what is left. Assumes nothing.
-use borrow.Author.Needs.{needs}
 use Prim.Native.Nat.{_-_}
-use mathlib.Core.Path.{_≡_, refl, sym, _∙_}
+use mathlib.Core.Path.{_≡_, refl, sym, ap, _∙_}
 use lib.ListN.{length, drop}
-use borrow.Author.Tests.{eq-eqb, ne-eqb}
+use borrow.Author.Needs.{needs}
 use Rattle.text.specs.Bytes.{same}
-use Rattle.text.proofs.Same.{same-long, same-step, same-end}
+use Rattle.text.proofs.Same.{differ, same-next, same-end}
 use Rattle.text.proofs.bytes.equal.Statement.{statement}
 use Rattle.text.proofs.bytes.equal.Tie as tie
 
@@ -17,7 +16,7 @@ abbrev μ-loop : tie.MeasureT-loop
 μ-loop a b i₀ i = length a - i
 
 returns : tie.Need-returns Inv-loop μ-loop
-returns c = sym (same-long _ _ (c .if1 .taken))
+returns c = sym (differ _ _ (λ e. c .if1 .taken (ap length e)))
 
 loop-holds : tie.Need-loop-holds Inv-loop μ-loop
 loop-holds c = (c .if1 .left, refl)
@@ -29,8 +28,7 @@ shared-slice-read-if2-2 : tie.Need-shared-slice-read-if2-2 Inv-loop μ-loop
 shared-slice-read-if2-2 c = search needs
 
 returns-2 : tie.Need-returns-2 Inv-loop μ-loop
-returns-2 c = let l = c .before .before .before in
-    rw (l .before .loop .inv .1, same-step _ _ _ (l .before .loop .inv .0) (l .loop-test .taken), ne-eqb _ _ (c .if2 .taken))
+returns-2 c = sym (differ _ _ (λ e. c .if2 .taken (cc)))
 
 add-i : tie.Need-add-i Inv-loop μ-loop
 add-i c = search needs
@@ -39,11 +37,15 @@ loop-less : tie.Need-loop-less Inv-loop μ-loop
 loop-less c = search needs
 
 loop-again : tie.Need-loop-again Inv-loop μ-loop
-loop-again c = let l = c .before .before .before in
-    (l .before .loop .inv .0, l .before .loop .inv .1 ∙ rw (same-step _ _ _ (l .before .loop .inv .0) (l .loop-test .taken), eq-eqb _ _ (c .if2 .left)))
+loop-again c =
+    let l = c .before .before .before in
+    let inv = l .before .loop .inv in
+    (inv .0, inv .1 ∙ same-next _ _ _ (inv .0) (l .loop-test .taken) (c .if2 .left))
 
 returns-3 : tie.Need-returns-3 Inv-loop μ-loop
-returns-3 c = rw (c .before .loop .inv .1, same-end _ _ _ (c .before .loop .inv .0) (c .loop-test .left))
+returns-3 c =
+    let inv = c .before .loop .inv in
+    sym (inv .1 ∙ same-end _ _ _ (inv .0) (c .loop-test .left))
 
 pub equal-spec : {M : Type 1} → statement M
 equal-spec =

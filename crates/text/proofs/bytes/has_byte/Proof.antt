@@ -1,12 +1,11 @@
 -- `has_byte` meets its contract. The loop's invariant: the byte stands in the string where it stands in what is left of it.
 -- The measure is what is left. Assumes nothing.
-use borrow.Author.Needs.{needs}
 use Prim.Native.Nat.{_-_}
-use mathlib.Core.Path.{_≡_, refl, _∙_}
+use mathlib.Core.Path.{_≡_, refl, sym, _∙_}
 use lib.ListN.{length, drop}
-use borrow.Author.Tests.{eq-eqb, ne-eqb}
+use borrow.Author.Needs.{needs}
 use Rattle.text.specs.Bytes.{hasByte}
-use Rattle.text.proofs.Same.{has-step, has-end}
+use Rattle.text.proofs.Same.{has-here, has-next, has-end}
 use Rattle.text.proofs.bytes.has_byte.Statement.{statement}
 use Rattle.text.proofs.bytes.has_byte.Tie as tie
 
@@ -23,8 +22,9 @@ shared-slice-read-if1 : tie.Need-shared-slice-read-if1 Inv-loop μ-loop
 shared-slice-read-if1 c = search needs
 
 returns : tie.Need-returns Inv-loop μ-loop
-returns c = let l = c .before .before in
-    rw (l .before .loop .inv, has-step _ _ _ (l .loop-test .taken), eq-eqb _ _ (c .if1 .taken))
+returns c =
+    let l = c .before .before in
+    sym (l .before .loop .inv ∙ has-here _ _ _ (l .loop-test .taken) (c .if1 .taken))
 
 add-i : tie.Need-add-i Inv-loop μ-loop
 add-i c = search needs
@@ -33,11 +33,12 @@ loop-less : tie.Need-loop-less Inv-loop μ-loop
 loop-less c = search needs
 
 loop-again : tie.Need-loop-again Inv-loop μ-loop
-loop-again c = let l = c .before .before in
-    l .before .loop .inv ∙ rw (has-step _ _ _ (l .loop-test .taken), ne-eqb _ _ (c .if1 .left))
+loop-again c =
+    let l = c .before .before in
+    l .before .loop .inv ∙ has-next _ _ _ (l .loop-test .taken) (c .if1 .left)
 
 returns-2 : tie.Need-returns-2 Inv-loop μ-loop
-returns-2 c = rw (c .before .loop .inv, has-end _ _ _ (c .loop-test .left))
+returns-2 c = sym (c .before .loop .inv ∙ has-end _ _ _ (c .loop-test .left))
 
 pub has-byte-spec : {M : Type 1} → statement M
 has-byte-spec =

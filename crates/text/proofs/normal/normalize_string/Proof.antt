@@ -1,12 +1,11 @@
 -- `normalize_string` meets its contract. The loop's invariant is `State`, what is written so far and what is left to write;
 -- the measure is what is left of the string. Assumes nothing.
-use borrow.Author.Needs.{needs}
 use Prim.Native.Nat.{_-_}
 use mathlib.Core.Logic.{⊎-elim}
+use native.Mathlib.Omega.{arith}
 use lib.ListN.{length}
-use borrow.Author.Tests.{lt-ltb, le-ltb}
-use Rattle.text.specs.Normal.{normalized, written}
-use Rattle.text.proofs.Form.{State, start, space, one, two, gap-room, count, filled}
+use borrow.Author.Needs.{needs}
+use Rattle.text.proofs.Form.{State, start, refused, space, one, two, gap-room, done}
 use Rattle.text.proofs.normal.normalize_string.Statement.{statement}
 use Rattle.text.proofs.normal.normalize_string.Tie as tie
 
@@ -17,8 +16,7 @@ abbrev μ-loop : tie.MeasureT-loop
 μ-loop s out₀ i₀ n₀ seen-nw₀ seen-ws₀ out i n seen-nw seen-ws = length s - i
 
 returns : tie.Need-returns Inv-loop μ-loop
-unfolding normalized written
-returns c = (simp (lt-ltb _ _ (c .if1 .taken)), simp (lt-ltb _ _ (c .if1 .taken)))
+returns c = refused _ _ (omega arith)
 
 loop-holds : tie.Need-loop-holds Inv-loop μ-loop
 loop-holds c = start _ _ (c .if1 .left)
@@ -57,7 +55,8 @@ loop-less-2 : tie.Need-loop-less-2 Inv-loop μ-loop
 loop-less-2 c = search needs
 
 loop-again-2 : tie.Need-loop-again-2 Inv-loop μ-loop
-loop-again-2 c = let l = c .before .before .before .before .before in
+loop-again-2 c =
+    let l = c .before .before .before .before .before in
     two _ _ _ _ _ _ _ (l .before .loop .inv) (l .loop-test .taken) _ (c .before .before .if3 .taken) (c .before .if4 .taken) (c .before .before .before .if2 .left) (c .lower .ensures)
 
 lower-requires-2 : tie.Need-lower-requires-2 Inv-loop μ-loop
@@ -76,16 +75,15 @@ loop-less-3 : tie.Need-loop-less-3 Inv-loop μ-loop
 loop-less-3 c = search needs
 
 loop-again-3 : tie.Need-loop-again-3 Inv-loop μ-loop
-loop-again-3 c = let l = c .before .before .before .before in
+loop-again-3 c =
+    let l = c .before .before .before .before in
     one _ _ _ _ _ _ _ (l .before .loop .inv) (l .loop-test .taken) _ (c .before .before .if2 .left) (⊎-elim (λ w. rw (w .0 .taken, w .1 .left)) (λ w. rw (w .left)) (c .before .if3 .came)) (c .lower2 .ensures)
 
 same-length : tie.Need-same-length Inv-loop μ-loop
 same-length c = search needs
 
 returns-2 : tie.Need-returns-2 Inv-loop μ-loop
-unfolding normalized written
-returns-2 c = let l = c .before in
-    (simp (le-ltb _ _ (l .before .if1 .left), count _ _ _ _ _ _ _ (l .loop .inv) (c .loop-test .left)), simp (le-ltb _ _ (l .before .if1 .left)) (filled _ _ _ _ _ _ _ (l .loop .inv) (c .loop-test .left)))
+returns-2 c = done _ _ _ _ _ _ _ (c .before .loop .inv) (c .loop-test .left)
 
 pub normalize-string-spec : {M : Type 1} → statement M
 normalize-string-spec =

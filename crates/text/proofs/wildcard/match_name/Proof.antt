@@ -1,15 +1,15 @@
 -- `match_name` meets its contract: a law of `Star` for each return, and what the calls ensure. Assumes nothing.
-use native.Mathlib.Omega.{arith}
 use mathlib.Core.Path.{_≡_, sym, ap, _∙_}
 use mathlib.Core.Bool.{true, not}
+use native.Mathlib.Omega.{arith}
 use lib.ListN.{length-take}
 use denote.Ref.{now}
 use borrow.Author.Tests.{not-true, not-false}
+use borrow.Author.Needs.{needs}
 use Rattle.text.specs.Bytes.{startsWith}
 use Rattle.text.specs.Wildcard.{starDot, underStar, matchName}
 use Rattle.text.proofs.Same.{tail}
 use Rattle.text.proofs.Star.{plain, bare, domain, under, short, label}
-use borrow.Author.Needs.{needs}
 use Rattle.text.proofs.wildcard.match_name.Statement.{statement}
 use Rattle.text.proofs.wildcard.match_name.Tie as tie
 
@@ -24,7 +24,7 @@ entry c = c .before .before .before .before .before .before .before .before .bef
 under-star : (c : tie.Else3)
     → matchName (now (entry c .args .pattern)) (now (entry c .args .name))
     ≡ underStar (now (entry c .args .pattern)) (now (entry c .args .name))
-under-star c = under _ _ (star (c .before .before .before .before)) (c .before .before .before .if2 .left) (sym (rw tail at (c .before .equal2 .ensures)) ∙ c .if3 .left)
+under-star c = under _ _ (star (c .before .before .before .before)) (omega arith) (sym (rw tail at (c .before .equal2 .ensures)) ∙ c .if3 .left)
 
 slice-aggregate-starts-with : tie.Need-slice-aggregate-starts-with
 slice-aggregate-starts-with c = search needs
@@ -39,7 +39,7 @@ returns : tie.Need-returns
 returns c = c .equal .ensures ∙ sym (plain _ _ (sym (c .before .before .starts-with .ensures) ∙ not-true _ (c .before .if1 .taken)))
 
 returns-2 : tie.Need-returns-2
-returns-2 c = sym (bare _ _ (star (c .before)) (c .if2 .taken))
+returns-2 c = sym (bare _ _ (star (c .before)) (omega arith))
 
 sub-equal : tie.Need-sub-equal
 sub-equal c = search needs
@@ -54,7 +54,7 @@ equal-requires-2 : tie.Need-equal-requires-2
 equal-requires-2 c κs = search needs
 
 returns-3 : tie.Need-returns-3
-returns-3 c = sym (domain _ _ (star (c .before .before .before .before)) (c .before .before .before .if2 .left) (sym (rw tail at (c .before .equal2 .ensures)) ∙ c .if3 .taken))
+returns-3 c = sym (domain _ _ (star (c .before .before .before .before)) (omega arith) (sym (rw tail at (c .before .equal2 .ensures)) ∙ c .if3 .taken))
 
 sub-suffix : tie.Need-sub-suffix
 sub-suffix c = search needs
@@ -84,11 +84,13 @@ has-byte-requires : tie.Need-has-byte-requires
 has-byte-requires c κs = search needs
 
 returns-5 : tie.Need-returns-5
-returns-5 c = let e = c .before .before .before in
+returns-5 c =
+    let e = c .before .before .before in
     ap not (c .has-byte .ensures) ∙ sym (under-star (e .before .before .before) ∙ label _ _ (e .before .before .if4 .left) ∙ rw (sym (rw tail at (e .ends-with .ensures)) ∙ c .before .before .if5 .taken))
 
 returns-6 : tie.Need-returns-6
-returns-6 c = let e = c .before in
+returns-6 c =
+    let e = c .before in
     sym (under-star (e .before .before .before) ∙ label _ _ (e .before .before .if4 .left) ∙ rw (sym (rw tail at (e .ends-with .ensures)) ∙ c .if5 .left))
 
 pub match-name-spec : {M : Type 1} → statement M

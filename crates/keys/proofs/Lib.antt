@@ -1,0 +1,3 @@
+pub mod Fits
+pub mod Range
+pub mod Upstream

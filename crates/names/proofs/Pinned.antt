@@ -1,0 +1,42 @@
+-- No two answers say the same: what a relation of two names, or the reader of an attribute, says pins its answer down.
+-- Assumes nothing.
+use Prim.Native.Nat.{ℕ}
+use mathlib.Core.Path.{_≡_, refl, ap}
+use mathlib.Core.Bool.{cond}
+use lib.Dec.{eqb}
+use Rattle.fields.specs.Fields.{Parsed, got, stop}
+use Rattle.fields.specs.declared.fault.Fault.the-variants.{UnknownEdition, TooLong, CutShort, BadCount, BadValue, LeftOver}
+use Rattle.fields.proofs.Pinned.{pins, faultOf, fault-again}
+use Rattle.names.specs.Answers.{attributed, said}
+use Rattle.names.specs.declared.read.Attribute.{Attribute}
+use Rattle.names.specs.declared.read.AttributeAt.{AttributeAt}
+use Rattle.names.specs.declared.read.AttributeAt.the-variants as attribute
+use Rattle.names.specs.declared.related.Related.{Related}
+use Rattle.names.specs.declared.related.Related.the-variants.{No, Yes, Stop}
+
+pub said-pins : (a b : Related) → said a ≡ said b → a ≡ b
+said-pins = pins said back again
+  where
+    back : ℕ → Related
+    back n = cond (eqb n 0) No (cond (eqb n 1) Yes (Stop (faultOf n)))
+
+    again : (a : Related) → back (said a) ≡ a
+    again No = refl
+    again Yes = refl
+    again (Stop UnknownEdition) = refl
+    again (Stop TooLong) = refl
+    again (Stop CutShort) = refl
+    again (Stop BadCount) = refl
+    again (Stop BadValue) = refl
+    again (Stop LeftOver) = refl
+
+pub attributed-pins : (a b : AttributeAt) → attributed a ≡ attributed b → a ≡ b
+attributed-pins = pins attributed back again
+  where
+    back : Parsed Attribute → AttributeAt
+    back (got a e) = attribute.Got a
+    back (stop r) = attribute.Stop (faultOf r)
+
+    again : (a : AttributeAt) → back (attributed a) ≡ a
+    again (attribute.Got a) = refl
+    again (attribute.Stop f) = ap attribute.Stop (fault-again f)
