@@ -59,12 +59,12 @@ pub(crate) enum NameAt {
 // The attribute at a place; the place past it is the end of its value.
 pub fn attribute_at(file: &[u8], at: usize) -> AttributeAt
     ensures {
-        λ r. do ⌜ attributed r ≡ spansP
-            (← ⟦Attribute::OID_LEAST⟧ .entry)
-            (← ⟦Attribute::OID_MOST⟧ .entry)
-            (← ⟦Attribute::VALUE_LEAST⟧ .entry)
-            (← ⟦Attribute::VALUE_MOST⟧ .entry)
-            (now (file .entry)) at ⌝
+        λ r. do
+            oid-least ← ⟦Attribute::OID_LEAST⟧ .entry
+            oid-most ← ⟦Attribute::OID_MOST⟧ .entry
+            value-least ← ⟦Attribute::VALUE_LEAST⟧ .entry
+            value-most ← ⟦Attribute::VALUE_MOST⟧ .entry
+            ⌜ attributed r ≡ spansP oid-least oid-most value-least value-most (now (file .entry)) at ⌝
     }
 {
     let oid = match string_at(file, at, Attribute::OID_LEAST, Attribute::OID_MOST) {

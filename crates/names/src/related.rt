@@ -28,7 +28,7 @@ pub fn same_attr(a: &[u8], b: &[u8], normalise: bool) -> Related
     if let Past::Stop(fault) = whole_attribute(b) {
         return Related::Stop(fault);
     }
-    related(attr_walk(a, 0, b, 0, normalise))
+    answer(attr_walk(a, 0, b, 0, normalise))
 }
 
 // As many attributes, the same place by place.
@@ -41,7 +41,7 @@ pub fn same_rdn(a: &[u8], b: &[u8], normalise: bool) -> Related
     if let Past::Stop(fault) = whole_rdn(b) {
         return Related::Stop(fault);
     }
-    related(rdn_walk(a, 0, b, 0, normalise))
+    answer(rdn_walk(a, 0, b, 0, normalise))
 }
 
 // As many RDNs, the same place by place.
@@ -54,7 +54,7 @@ pub fn same_dn(a: &[u8], b: &[u8], normalise: bool) -> Related
     if let Past::Stop(fault) = whole_name(b) {
         return Related::Stop(fault);
     }
-    related(dn_walk(a, 0, b, 0, normalise))
+    answer(dn_walk(a, 0, b, 0, normalise))
 }
 
 // Whether some attribute of an RDN is the same as this one.
@@ -92,7 +92,7 @@ pub fn is_subtree_rdn(a: &[u8], b: &[u8], normalise: bool) -> Related
     if let Past::Stop(fault) = whole_rdn(b) {
         return Related::Stop(fault);
     }
-    related(subtree_rdn_walk(a, 0, b, 0, normalise))
+    answer(subtree_rdn_walk(a, 0, b, 0, normalise))
 }
 
 // No more RDNs, each a subtree of the one at its place.
@@ -112,7 +112,7 @@ pub fn is_subtree_of(a: &[u8], b: &[u8], normalise: bool) -> Related
     }
 }
 
-fn related(walk: Walk) -> Related
+fn answer(walk: Walk) -> Related
     ensures { λ r. ⌜ said r ≡ came walk ⌝ }
 {
     match walk {

@@ -1,9 +1,16 @@
 // Two attributes, RDNs or names walked side by side, place by place.
-use crate::read::{attribute_at, name_begins, rdn_begins, Attribute, AttributeAt, NameAt, RdnAt};
+use crate::read::Attribute;
+use crate::read::AttributeAt;
+use crate::read::NameAt;
+use crate::read::RdnAt;
+use crate::read::attribute_at;
+use crate::read::name_begins;
+use crate::read::rdn_begins;
 use fields::part;
-use text::{equal, normalize_string, Normalized};
+use text::Normalized;
+use text::equal;
+use text::normalize_string;
 ghost use mathlib.Core.Path.{_≡_};
-ghost use mathlib.Core.Bool.{Bool};
 ghost use Prim.Native.Nat.{_≤_};
 ghost use lib.ListN.{length};
 ghost use Rattle.fields.specs.Fields.{many};
@@ -114,7 +121,10 @@ pub(crate) fn attr_walk(s: &[u8], at: usize, t: &[u8], bt: usize, normalise: boo
         AttributeAt::Got(a) => match attribute_at(t, bt) {
             AttributeAt::Got(b) => {
                 if same_attribute(s, a, t, b, normalise) {
-                    Walk::On { left: a.value.end, right: b.value.end }
+                    Walk::On {
+                        left: a.value.end,
+                        right: b.value.end,
+                    }
                 } else {
                     Walk::Differ
                 }
@@ -126,7 +136,13 @@ pub(crate) fn attr_walk(s: &[u8], at: usize, t: &[u8], bt: usize, normalise: boo
 }
 
 // Whether two attributes that were read are the same.
-pub(crate) fn same_attribute(s: &[u8], a: Attribute, t: &[u8], b: Attribute, normalise: bool) -> bool
+pub(crate) fn same_attribute(
+    s: &[u8],
+    a: Attribute,
+    t: &[u8],
+    b: Attribute,
+    normalise: bool,
+) -> bool
     requires { ⌜ Short a (now s) × Short b (now t) ⌝ }
     ensures { λ r. ⌜ r ≡ sameAttr normalise (attrOf a (now (s .entry))) (attrOf b (now (t .entry))) ⌝ }
 {

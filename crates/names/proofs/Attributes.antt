@@ -1,0 +1,57 @@
+-- What the answer of a reader of attributes tells: the attribute that stands there, whose value is short, or the fault.
+-- Assumes nothing.
+use Prim.Native.Nat.{ℕ}
+use mathlib.Core.Path.{_≡_, refl, sym, ap, _∙_}
+use mathlib.Core.List.{List}
+use Rattle.fields.specs.Fields.{Parsed, got, stop, after, spanP}
+use Rattle.fields.specs.Answers.{number}
+use Rattle.fields.specs.declared.fault.Fault.{Fault}
+use Rattle.fields.specs.declared.string.Span.{Span}
+use Rattle.fields.proofs.Strings.{span-read, string-got, string-stops}
+use Rattle.names.specs.Names.{attrP}
+use Rattle.names.specs.Answers.{spansP, attributed}
+use Rattle.names.specs.Walks.{attrOf, Short}
+use Rattle.names.specs.declared.read.Attribute.{Attribute}
+use Rattle.names.specs.declared.read.AttributeAt.{AttributeAt}
+use Rattle.names.specs.declared.read.AttributeAt.the-variants.{Got, Stop}
+
+-- the attribute a was read
+pub record AttrRead (s : List ℕ) (at : ℕ) (a : Attribute) : Type 0 where
+  pub is : attrP s at ≡ got (attrOf a s) (a .value .end)
+  pub short : Short a s
+
+module _ (s : List ℕ) (at : ℕ) where
+  -- attrP by the places that spansP finds
+  attr-by : Parsed Attribute → Type 0
+  attr-by (got a e) = AttrRead s at a
+  attr-by (stop r) = attrP s at ≡ stop r
+
+  by-value : (o : Span) (e : ℕ) → spanP 1 16 s at ≡ got o e → (y : Parsed Span) → spanP 0 255 s e ≡ y
+      → attr-by (after y (λ v f. got (record { oid = o; value = v }) f))
+  unfolding attr-by attrP
+  by-value o e h (got v f) k =
+      let t = span-read 0 255 s e v f k in
+      record {
+        is = rw (string-got 1 16 s at o e h, string-got 0 255 s e v f k, t .ends);
+        short = t .few;
+      }
+  by-value o e h (stop r) k = rw (string-got 1 16 s at o e h, string-stops 0 255 s e r k)
+
+  by-oid : (x : Parsed Span) → spanP 1 16 s at ≡ x
+      → attr-by (after x (λ o e. after (spanP 0 255 s e) (λ v f. got (record { oid = o; value = v }) f)))
+  unfolding attr-by attrP
+  by-oid (got o e) h = by-value o e h _ refl
+  by-oid (stop r) h = rw (string-stops 1 16 s at r h)
+
+  attr-told : attr-by (spansP 1 16 0 255 s at)
+  unfolding spansP
+  attr-told = by-oid _ refl
+
+  module _ (r : AttributeAt) (h : attributed r ≡ spansP 1 16 0 255 s at) where
+    pub attr-read : (a : Attribute) → r ≡ Got a → AttrRead s at a
+    unfolding attr-by
+    attr-read a e = rw (← ap attributed (sym e) ∙ h) at attr-told
+
+    pub attr-stops : (f : Fault) → r ≡ Stop f → attrP s at ≡ stop (number f)
+    unfolding attr-by
+    attr-stops f e = rw (← ap attributed (sym e) ∙ h) at attr-told

@@ -1,0 +1,138 @@
+-- Arguments that are judged through, for any thing and any relation: what a reader of a whole argument has to show at each of its
+-- returns, what its answer tells of the argument, and what a relation of two arguments then answers. Assumes nothing.
+use Prim.Native.Nat.{ℕ, _<_, _≤_}
+use mathlib.Core.Path.{_≡_, refl, sym, ap, _∙_}
+use mathlib.Core.Bool.{Bool, true, false, cond}
+use mathlib.Core.List.{List}
+use native.Mathlib.Omega.{arith}
+use lib.ListN.{length}
+use lib.Dec.{ltb}
+use borrow.Author.Tests.{lt-ltb, le-ltb}
+use Rattle.fields.specs.Fields.{Parsed, got, stop, after, countP, countedP, whole}
+use Rattle.fields.specs.Answers.{number, passing, passed}
+use Rattle.fields.specs.declared.Past.{Past}
+use Rattle.fields.specs.declared.Past.the-variants.{Got, Stop}
+use Rattle.fields.specs.declared.fault.Fault.{Fault}
+use Rattle.names.specs.Names.{attrP, rdnP, rdnHasName}
+use Rattle.names.specs.Answers.{asked, bothSame}
+use Rattle.names.specs.Walks.{attrOf, Fine, walk, came, standing}
+use Rattle.names.specs.declared.read.Attribute.{Attribute}
+use Rattle.names.specs.declared.same.Walk.the-variants.{On, Differ}
+use Rattle.names.proofs.Attributes.{AttrRead}
+use Rattle.names.proofs.Subtrees.{passing-stops, row-read}
+
+-- what follows a thing that was read, where the bytes should end
+abbrev judged : {A : Type 0} → List ℕ → Parsed A → Parsed A
+judged s x = after x (λ a e. cond (ltb e (length s)) (stop 9) (got a e))
+
+module _ {A : Type 0} (s : List ℕ) where
+  over : (x : Parsed A) (e : ℕ) → passing x ≡ got tt e → e < length s → passing (judged s x) ≡ stop 9
+  over (got a f) e h l =
+      let k : f ≡ e = cc in
+      rw (k, lt-ltb e (length s) l)
+  over (stop r) e h l = let z : _≡_ {A = ℕ} 0 1 = cc in absurd (omega arith)
+
+  filled : (x : Parsed A) (e : ℕ) → passing x ≡ got tt e → length s ≤ e → passing (judged s x) ≡ got tt e
+  filled (got a f) e h l =
+      let k : f ≡ e = cc in
+      rw (k, le-ltb e (length s) l)
+  filled (stop r) e h l = let z : _≡_ {A = ℕ} 0 1 = cc in absurd (omega arith)
+
+  faulty : (x : Parsed A) (r : ℕ) → passing x ≡ stop r → passing (judged s x) ≡ stop r
+  faulty (got a f) r h = let z : _≡_ {A = ℕ} 0 1 = cc in absurd (omega arith)
+  faulty (stop q) r h = cc
+
+module _ {A : Type 0} (p : List ℕ → ℕ → Parsed A) (s : List ℕ) where
+  -- ---- what a reader shows at its returns
+
+  pub left-over : (e : ℕ) → passing (p s 0) ≡ got tt e → e < length s → passing (whole p s) ≡ stop 9
+  unfolding whole
+  left-over e h l = over s (p s 0) e h l
+
+  pub fills : (e : ℕ) → passing (p s 0) ≡ got tt e → length s ≤ e → passing (whole p s) ≡ got tt e
+  unfolding whole
+  fills e h l = filled s (p s 0) e h l
+
+  pub bad : (r : ℕ) → passing (p s 0) ≡ stop r → passing (whole p s) ≡ stop r
+  unfolding whole
+  bad r h = faulty s (p s 0) r h
+
+  -- ---- what its answer tells
+
+  -- the argument holds a thing and nothing else
+  pub record Holds (e : ℕ) : Type 0 where
+    pub thing : A
+    pub read : p s 0 ≡ got thing e
+    pub is : whole p s ≡ got thing e
+
+  holds-by : (x : Parsed A) → p s 0 ≡ x → (e : ℕ) → passing (judged s x) ≡ got tt e → Holds e
+  unfolding whole
+  holds-by (got a f) h e k = go (ltb f (length s)) refl k where
+    go : (u : Bool) → ltb f (length s) ≡ u → passing {A = A} (cond u (stop 9) (got a f)) ≡ got tt e → Holds e
+    go true g k = let z : _≡_ {A = ℕ} 0 1 = cc in absurd (omega arith)
+    go false g k =
+        let m : f ≡ e = cc in
+        record { thing = a; read = h ∙ ap (got a) m; is = rw (h, g, m) }
+  holds-by (stop r) h e k = let z : _≡_ {A = ℕ} 0 1 = cc in absurd (omega arith)
+
+  pub holds : (r : Past) → passed r ≡ passing (whole p s) → (e : ℕ) → r ≡ Got e → Holds e
+  unfolding whole
+  holds r h e k = holds-by (p s 0) refl e (sym h ∙ ap passed k)
+
+  pub stops : (r : Past) → passed r ≡ passing (whole p s) → (f : Fault) → r ≡ Stop f → whole p s ≡ stop (number f)
+  stops r h f k = passing-stops (whole p s) (number f) (sym h ∙ ap passed k)
+
+  pub fine : (e : ℕ) → Holds e → Fine (p s 0)
+  fine e x = rw (x .read) tt
+
+-- ---- what a relation of two arguments answers
+
+module _ {A B : Type 0} (p : List ℕ → ℕ → Parsed A) (q : List ℕ → ℕ → Parsed B) (rel : A → B → Bool) (a b : List ℕ) where
+  -- the first argument is bad
+  pub first-bad : (r : Past) → passed r ≡ passing (whole p a) → (f : Fault) → r ≡ Stop f → number f ≡ asked rel (whole p a) (whole q b)
+  first-bad r h f k = rw (stops p a r h f k)
+
+  -- the first is fine and the second is bad
+  pub second-bad : (e : ℕ) → Holds p a e → (r : Past) → passed r ≡ passing (whole q b) → (f : Fault) → r ≡ Stop f
+      → number f ≡ asked rel (whole p a) (whole q b)
+  second-bad e x r h f k = rw (x .is, stops q b r h f k)
+
+came-by : (t : Bool) (e f : ℕ) → came (cond t (On e f) Differ) ≡ cond t 1 0
+came-by true e f = refl
+came-by false e f = refl
+
+-- both are fine, and were walked side by side
+pub walked : {A : Type 0} (p : List ℕ → ℕ → Parsed A) (rel : A → A → Bool) (a b : List ℕ) (e f : ℕ) → Holds p a e → Holds p b f
+    → came (walk rel (p a 0) (p b 0)) ≡ asked rel (whole p a) (whole p b)
+walked p rel a b e f x y = rw (x .read, y .read, x .is, y .is) (came-by (rel (x .thing) (y .thing)) e f)
+
+-- both are fine, and what was found of the two is t
+pub found : {A : Type 0} (p : List ℕ → ℕ → Parsed A) (rel : A → A → Bool) (a b : List ℕ) (e f : ℕ) → Holds p a e → Holds p b f
+    → (t : Bool) → t ≡ bothSame rel (p a 0) (p b 0) → cond t 1 0 ≡ asked rel (whole p a) (whole p b)
+found p rel a b e f x y t h = rw (h, x .read, y .read, x .is, y .is)
+
+-- ---- an RDN and an attribute
+
+module _ (normalise : Bool) (a b : List ℕ) (e f : ℕ) (x : Holds rdnP a e) (y : Holds attrP b f) where
+  pub has-found : (n first : ℕ) → countP 1 4 a 0 ≡ got n first → (z : Attribute) → AttrRead b 0 z
+      → (t : Bool) → t ≡ rdnHasName normalise (standing attrP n a first) (attrOf z b)
+      → cond t 1 0 ≡ asked (rdnHasName normalise) (whole rdnP a) (whole attrP b)
+  unfolding rdnP
+  has-found n first c z r t h =
+      let row = row-read 1 4 attrP a 0 n first c (fine rdnP a e x) in
+      let i : row .things ≡ x .thing = cc (row .whole, x .read) in
+      let j : attrOf z b ≡ y .thing = cc (r .is, y .read) in
+      rw (h, row .stand, i, j, x .is, y .is)
+
+-- an RDN that fills its bytes was begun, and an attribute that fills its bytes is there
+pub rdn-begun : (a : List ℕ) (e : ℕ) → Holds rdnP a e → (r : ℕ) → countP 1 4 a 0 ≡ stop r → ⊥
+unfolding rdnP countedP
+rdn-begun a e x r h =
+    let k : stop r ≡ got (x .thing) e = rw h at (x .read) in
+    let z : _≡_ {A = ℕ} 0 1 = cc in
+    omega arith
+
+pub attr-there : (b : List ℕ) (f : ℕ) → Holds attrP b f → (r : ℕ) → attrP b 0 ≡ stop r → ⊥
+attr-there b f y r h =
+    let z : _≡_ {A = ℕ} 0 1 = cc (h, y .read) in
+    omega arith
