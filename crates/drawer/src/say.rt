@@ -1,5 +1,4 @@
 // One line for each case: what it shows, and the answer.
-use fields::Fault;
 use libc::STDOUT_FILENO;
 use names::Related;
 
@@ -25,20 +24,8 @@ pub fn related(label: &[u8], r: Related) {
         Related::Stop(fault) => {
             io::write_all(STDOUT_FILENO, label);
             io::write_all(STDOUT_FILENO, b": ");
-            io::print_decimal(STDOUT_FILENO, number(fault));
+            io::print_decimal(STDOUT_FILENO, fault.number() as u64);
             io::write_all(STDOUT_FILENO, b"\n");
         }
-    }
-}
-
-// The fault's number in the table of replies.
-fn number(fault: Fault) -> u64 {
-    match fault {
-        Fault::UnknownEdition => 4,
-        Fault::TooLong => 5,
-        Fault::CutShort => 6,
-        Fault::BadCount => 7,
-        Fault::BadValue => 8,
-        Fault::LeftOver => 9,
     }
 }
