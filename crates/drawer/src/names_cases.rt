@@ -1,6 +1,7 @@
 // Attributes, RDNs and names, as a card file encodes them.
 use crate::say::related;
-use names::{is_subtree_of, is_subtree_rdn, rdn_has_name, same_attr, same_dn, same_rdn};
+use names::{same_attr, same_dn, same_rdn};
+use subtree::{is_subtree_of, is_subtree_rdn, rdn_has_name};
 
 pub fn attributes() {
     related(b"equal attributes", same_attr(b"\x01a\x01x", b"\x01a\x01x", false));

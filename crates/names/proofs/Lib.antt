@@ -1,7 +1,5 @@
 pub mod Attributes
-pub mod Standing
-pub mod Subtrees
+pub mod Pinned
+pub mod Upstream
 pub mod Walks
 pub mod Whole
-pub mod Upstream
-pub mod Pinned

@@ -1,4 +1,4 @@
--- No two answers say the same: what a relation of two names, or the reader of an attribute, says pins its answer down.
+-- No two answers say the same: what a relation of two names, or a reader of this crate, says pins its answer down.
 -- Assumes nothing.
 use Prim.Native.Nat.{ℕ}
 use mathlib.Core.Path.{_≡_, refl, ap}
@@ -7,10 +7,14 @@ use lib.Dec.{eqb}
 use Rattle.fields.specs.Fields.{Parsed, got, stop}
 use Rattle.fields.specs.declared.fault.Fault.the-variants.{UnknownEdition, TooLong, CutShort, BadCount, BadValue, LeftOver}
 use Rattle.fields.proofs.Pinned.{pins, faultOf, fault-again}
-use Rattle.names.specs.Answers.{attributed, said}
+use Rattle.names.specs.Answers.{attributed, rdnBegun, nameBegun, said}
 use Rattle.names.specs.declared.read.Attribute.{Attribute}
 use Rattle.names.specs.declared.read.AttributeAt.{AttributeAt}
 use Rattle.names.specs.declared.read.AttributeAt.the-variants as attribute
+use Rattle.names.specs.declared.read.RdnAt.{RdnAt}
+use Rattle.names.specs.declared.read.RdnAt.the-variants as rdn
+use Rattle.names.specs.declared.read.NameAt.{NameAt}
+use Rattle.names.specs.declared.read.NameAt.the-variants as name
 use Rattle.names.specs.declared.related.Related.{Related}
 use Rattle.names.specs.declared.related.Related.the-variants.{No, Yes, Stop}
 
@@ -40,3 +44,25 @@ attributed-pins = pins attributed back again
     again : (a : AttributeAt) → back (attributed a) ≡ a
     again (attribute.Got a) = refl
     again (attribute.Stop f) = ap attribute.Stop (fault-again f)
+
+pub rdn-begun-pins : (a b : RdnAt) → rdnBegun a ≡ rdnBegun b → a ≡ b
+rdn-begun-pins = pins rdnBegun back again
+  where
+    back : Parsed ℕ → RdnAt
+    back (got n e) = rdn.Got (record { count = n; first = e })
+    back (stop r) = rdn.Stop (faultOf r)
+
+    again : (a : RdnAt) → back (rdnBegun a) ≡ a
+    again (rdn.Got a) = refl
+    again (rdn.Stop f) = ap rdn.Stop (fault-again f)
+
+pub name-begun-pins : (a b : NameAt) → nameBegun a ≡ nameBegun b → a ≡ b
+name-begun-pins = pins nameBegun back again
+  where
+    back : Parsed ℕ → NameAt
+    back (got n e) = name.Got (record { count = n; first = e })
+    back (stop r) = name.Stop (faultOf r)
+
+    again : (a : NameAt) → back (nameBegun a) ≡ a
+    again (name.Got a) = refl
+    again (name.Stop f) = ap name.Stop (fault-again f)

@@ -8,18 +8,19 @@ use native.Mathlib.Omega.{arith}
 use lib.ListN.{length}
 use lib.Dec.{ltb}
 use borrow.Author.Tests.{lt-ltb, le-ltb}
-use Rattle.fields.specs.Fields.{Parsed, got, stop, after, countP, countedP, whole}
+use Rattle.fields.specs.Fields.{Parsed, got, stop, after, whole}
 use Rattle.fields.specs.Answers.{number, passing, passed}
 use Rattle.fields.specs.declared.Past.{Past}
 use Rattle.fields.specs.declared.Past.the-variants.{Got, Stop}
 use Rattle.fields.specs.declared.fault.Fault.{Fault}
-use Rattle.names.specs.Names.{attrP, rdnP, rdnHasName}
-use Rattle.names.specs.Answers.{asked, bothSame}
-use Rattle.names.specs.Walks.{attrOf, Fine, walk, came, standing}
-use Rattle.names.specs.declared.read.Attribute.{Attribute}
+use Rattle.names.specs.Answers.{asked, came}
+use Rattle.names.specs.Walks.{walk}
 use Rattle.names.specs.declared.same.Walk.the-variants.{On, Differ}
-use Rattle.names.proofs.Attributes.{AttrRead}
-use Rattle.names.proofs.Subtrees.{passing-stops, row-read}
+
+-- a thing that ends nowhere can't be read
+pub passing-stops : {A : Type 0} (x : Parsed A) (r : ℕ) → passing x ≡ stop r → x ≡ stop r
+passing-stops (got a e) r h = let z : _≡_ {A = ℕ} 0 1 = cc in absurd (omega arith)
+passing-stops (stop k) r h = let z : k ≡ r = cc in rw z
 
 -- what follows a thing that was read, where the bytes should end
 abbrev judged : {A : Type 0} → List ℕ → Parsed A → Parsed A
@@ -82,9 +83,6 @@ module _ {A : Type 0} (p : List ℕ → ℕ → Parsed A) (s : List ℕ) where
   pub stops : (r : Past) → passed r ≡ passing (whole p s) → (f : Fault) → r ≡ Stop f → whole p s ≡ stop (number f)
   stops r h f k = passing-stops (whole p s) (number f) (sym h ∙ ap passed k)
 
-  pub fine : (e : ℕ) → Holds e → Fine (p s 0)
-  fine e x = rw (x .read) tt
-
 -- ---- what a relation of two arguments answers
 
 module _ {A B : Type 0} (p : List ℕ → ℕ → Parsed A) (q : List ℕ → ℕ → Parsed B) (rel : A → B → Bool) (a b : List ℕ) where
@@ -105,34 +103,3 @@ came-by false e f = refl
 pub walked : {A : Type 0} (p : List ℕ → ℕ → Parsed A) (rel : A → A → Bool) (a b : List ℕ) (e f : ℕ) → Holds p a e → Holds p b f
     → came (walk rel (p a 0) (p b 0)) ≡ asked rel (whole p a) (whole p b)
 walked p rel a b e f x y = rw (x .read, y .read, x .is, y .is) (came-by (rel (x .thing) (y .thing)) e f)
-
--- both are fine, and what was found of the two is t
-pub found : {A : Type 0} (p : List ℕ → ℕ → Parsed A) (rel : A → A → Bool) (a b : List ℕ) (e f : ℕ) → Holds p a e → Holds p b f
-    → (t : Bool) → t ≡ bothSame rel (p a 0) (p b 0) → cond t 1 0 ≡ asked rel (whole p a) (whole p b)
-found p rel a b e f x y t h = rw (h, x .read, y .read, x .is, y .is)
-
--- ---- an RDN and an attribute
-
-module _ (normalise : Bool) (a b : List ℕ) (e f : ℕ) (x : Holds rdnP a e) (y : Holds attrP b f) where
-  pub has-found : (n first : ℕ) → countP 1 4 a 0 ≡ got n first → (z : Attribute) → AttrRead b 0 z
-      → (t : Bool) → t ≡ rdnHasName normalise (standing attrP n a first) (attrOf z b)
-      → cond t 1 0 ≡ asked (rdnHasName normalise) (whole rdnP a) (whole attrP b)
-  unfolding rdnP
-  has-found n first c z r t h =
-      let row = row-read 1 4 attrP a 0 n first c (fine rdnP a e x) in
-      let i : row .things ≡ x .thing = cc (row .whole, x .read) in
-      let j : attrOf z b ≡ y .thing = cc (r .is, y .read) in
-      rw (h, row .stand, i, j, x .is, y .is)
-
--- an RDN that fills its bytes was begun, and an attribute that fills its bytes is there
-pub rdn-begun : (a : List ℕ) (e : ℕ) → Holds rdnP a e → (r : ℕ) → countP 1 4 a 0 ≡ stop r → ⊥
-unfolding rdnP countedP
-rdn-begun a e x r h =
-    let k : stop r ≡ got (x .thing) e = rw h at (x .read) in
-    let z : _≡_ {A = ℕ} 0 1 = cc in
-    omega arith
-
-pub attr-there : (b : List ℕ) (f : ℕ) → Holds attrP b f → (r : ℕ) → attrP b 0 ≡ stop r → ⊥
-attr-there b f y r h =
-    let z : _≡_ {A = ℕ} 0 1 = cc (h, y .read) in
-    omega arith

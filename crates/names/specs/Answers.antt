@@ -11,6 +11,8 @@ use Rattle.names.specs.declared.read.RdnAt.{RdnAt}
 use Rattle.names.specs.declared.read.RdnAt.the-variants as rdn
 use Rattle.names.specs.declared.read.NameAt.{NameAt}
 use Rattle.names.specs.declared.read.NameAt.the-variants as name
+use Rattle.names.specs.declared.same.Walk.{Walk}
+use Rattle.names.specs.declared.same.Walk.the-variants.{On, Differ}
 use Rattle.names.specs.declared.related.Related.{Related}
 use Rattle.names.specs.declared.related.Related.the-variants.{No, Yes, Stop}
 
@@ -51,3 +53,8 @@ abbrev pub bothSame : {A : Type 0} → (A → A → Bool) → Parsed A → Parse
 bothSame q (stop r) b = false
 bothSame q (got x e) (stop r) = false
 bothSame q (got x e) (got y f) = q x y
+
+-- a walk that came through is a yes
+abbrev pub came : Walk → ℕ
+came (On e f) = 1
+came Differ = 0

@@ -57,12 +57,12 @@ pub enum AttributeAt {
     Stop(Fault),
 }
 
-pub(crate) enum RdnAt {
+pub enum RdnAt {
     Got(Rdn),
     Stop(Fault),
 }
 
-pub(crate) enum NameAt {
+pub enum NameAt {
     Got(Name),
     Stop(Fault),
 }
@@ -89,7 +89,7 @@ pub fn attribute_at(file: &[u8], at: usize) -> AttributeAt
 }
 
 // The count of an RDN's attributes.
-pub(crate) fn rdn_begins(file: &[u8], at: usize) -> RdnAt
+pub fn rdn_begins(file: &[u8], at: usize) -> RdnAt
     ensures { λ r. do ⌜ rdnBegun r ≡ countP (← ⟦Rdn::LEAST⟧ .entry) (← ⟦Rdn::MOST⟧ .entry) (now (file .entry)) at ⌝ }
 {
     match count_at(file, at, Rdn::LEAST, Rdn::MOST) {
@@ -99,7 +99,7 @@ pub(crate) fn rdn_begins(file: &[u8], at: usize) -> RdnAt
 }
 
 // The count of a name's RDNs.
-pub(crate) fn name_begins(file: &[u8], at: usize) -> NameAt
+pub fn name_begins(file: &[u8], at: usize) -> NameAt
     ensures { λ r. do ⌜ nameBegun r ≡ countP (← ⟦Name::LEAST⟧ .entry) (← ⟦Name::MOST⟧ .entry) (now (file .entry)) at ⌝ }
 {
     match count_at(file, at, Name::LEAST, Name::MOST) {

@@ -20,8 +20,8 @@ ghost use Rattle.names.specs.Names.{attrP, rdnP, nameP, places, sameAttr
 ghost use Rattle.names.specs.Answers.{bothSame};
 ghost use Rattle.names.specs.Walks.{attrOf, Short, walk};
 
-// Two things are the same and end here, or they differ, or one of them can't be read.
-pub(crate) enum Walk {
+// Two things are related and end here; or they are not, or one of them can't be read.
+pub enum Walk {
     On { left: usize, right: usize },
     Differ,
 }
@@ -114,7 +114,8 @@ fn attrs_walk(s: &[u8], at: usize, t: &[u8], bt: usize, n: usize, normalise: boo
     Walk::On { left: a, right: b }
 }
 
-pub(crate) fn attr_walk(s: &[u8], at: usize, t: &[u8], bt: usize, normalise: bool) -> Walk
+// The attributes at two places.
+pub fn attr_walk(s: &[u8], at: usize, t: &[u8], bt: usize, normalise: bool) -> Walk
     ensures { λ r. ⌜ r ≡ walk (sameAttr normalise) (attrP (now (s .entry)) at) (attrP (now (t .entry)) bt) ⌝ }
 {
     match attribute_at(s, at) {
@@ -136,7 +137,7 @@ pub(crate) fn attr_walk(s: &[u8], at: usize, t: &[u8], bt: usize, normalise: boo
 }
 
 // Whether two attributes that were read are the same.
-pub(crate) fn same_attribute(
+fn same_attribute(
     s: &[u8],
     a: Attribute,
     t: &[u8],

@@ -36,15 +36,15 @@ enum-told-2 c = search needs
 rdn-walk-requires : tie.Need-rdn-walk-requires
 rdn-walk-requires c κs = search needs
 
-answer-requires : tie.Need-answer-requires
-answer-requires c κs = search needs
+of-requires : tie.Need-of-requires
+of-requires c κs = search needs
 
 returns-3 : tie.Need-returns-3
 returns-3 c =
     let w = c .before in
     let b = w .before in
     let a = b .before .before .before in
-    c .answer .ensures
+    c .of .ensures
     ∙ rw (w .rdn-walk .ensures)
     (walked _ _ _ _ _ _ (holds _ _ _ (a .before .before .whole-rdn .ensures) _ (a .enum-told .given .1)) (holds _ _ _ (b .before .before .whole-rdn2 .ensures) _ (b .enum-told2 .given .1)))
 
@@ -61,5 +61,5 @@ same-rdn-spec =
     returns-2
     enum-told-2
     rdn-walk-requires
-    answer-requires
+    of-requires
     returns-3)

@@ -1,10 +1,11 @@
 -- `is_subtree_of` answers the first fault of the first bad argument, else what is found of the two names. Assumes nothing.
 use mathlib.Core.Path.{sym, _∙_}
 use Rattle.names.specs.Names.{nameP}
-use Rattle.names.proofs.Whole.{holds, fine, first-bad, second-bad, found}
+use Rattle.names.proofs.Whole.{holds, first-bad, second-bad}
+use Rattle.subtree.proofs.Found.{fine, found}
 use borrow.Author.Needs.{needs}
-use Rattle.names.proofs.related.is_subtree_of.Statement.{statement}
-use Rattle.names.proofs.related.is_subtree_of.Tie as tie
+use Rattle.subtree.proofs.related.is_subtree_of.Statement.{statement}
+use Rattle.subtree.proofs.related.is_subtree_of.Tie as tie
 
 whole-name-requires : tie.Need-whole-name-requires
 whole-name-requires c κs = search needs

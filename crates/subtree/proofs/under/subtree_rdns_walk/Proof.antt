@@ -2,11 +2,12 @@
 use mathlib.Core.Path.{_≡_, refl, sym, _∙_}
 use borrow.Author.Needs.{needs}
 use Rattle.fields.specs.Fields.{many}
-use Rattle.names.specs.Names.{rdnP, places, isSubtreeRdn}
+use Rattle.names.specs.Names.{rdnP, places}
+use Rattle.subtree.specs.Subtree.{isSubtreeRdn}
 use Rattle.names.specs.Walks.{walk}
 use Rattle.names.proofs.Walks.{walk-none, walk-on, walk-differs}
-use Rattle.names.proofs.subtree.subtree_rdns_walk.Statement.{statement}
-use Rattle.names.proofs.subtree.subtree_rdns_walk.Tie as tie
+use Rattle.subtree.proofs.under.subtree_rdns_walk.Statement.{statement}
+use Rattle.subtree.proofs.under.subtree_rdns_walk.Tie as tie
 
 abbrev Inv-loop : tie.InvT-loop
 Inv-loop s at t bt n normalise a₀ b₀ rest₀ a b rest =

@@ -2,13 +2,14 @@
 -- Assumes nothing.
 use mathlib.Core.Path.{sym, ap, _∙_}
 use Rattle.fields.specs.Answers.{passed}
-use Rattle.names.specs.Names.{rdnP, isSubtreeRdn}
+use Rattle.names.specs.Names.{rdnP}
+use Rattle.subtree.specs.Subtree.{isSubtreeRdn}
 use Rattle.names.specs.Answers.{rdnBegun}
 use Rattle.names.proofs.Walks.{stop-right, no-count-left, no-count-right}
-use Rattle.names.proofs.Subtrees.{passing-stops, rdn-row, longer-differs, standing-judged}
+use Rattle.subtree.proofs.Rows.{passing-stops, rdn-row, longer-differs, standing-judged}
 use borrow.Author.Needs.{needs}
-use Rattle.names.proofs.subtree.subtree_rdn_walk.Statement.{statement}
-use Rattle.names.proofs.subtree.subtree_rdn_walk.Tie as tie
+use Rattle.subtree.proofs.under.subtree_rdn_walk.Statement.{statement}
+use Rattle.subtree.proofs.under.subtree_rdn_walk.Tie as tie
 
 rdn-at-requires : tie.Need-rdn-at-requires
 rdn-at-requires c κs = search needs

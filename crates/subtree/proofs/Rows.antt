@@ -12,24 +12,21 @@ use borrow.Author.Tests.{le-leb, lt-leb}
 use Rattle.fields.specs.Fields.{Parsed, got, stop, countP, many, countedP}
 use Rattle.fields.specs.Answers.{passing}
 use Rattle.fields.proofs.Many.{many-length, many-prefix}
 use Rattle.names.specs.Names.{attrP, rdnP, nameP, places}
 use Rattle.names.specs.Answers.{rdnBegun, nameBegun}
-use Rattle.names.specs.Walks.{Fine, walk, standing}
+use Rattle.names.specs.Walks.{walk}
+use Rattle.subtree.specs.Rows.{Fine, standing}
 use Rattle.names.specs.declared.read.Rdn.{Rdn}
 use Rattle.names.specs.declared.read.RdnAt.{RdnAt}
 use Rattle.names.specs.declared.read.RdnAt.the-variants as rdn
 use Rattle.names.specs.declared.read.Name.{Name}
 use Rattle.names.specs.declared.read.NameAt.{NameAt}
 use Rattle.names.specs.declared.read.NameAt.the-variants as name
 use Rattle.names.specs.declared.same.Walk.the-variants.{On, Differ}
-use Rattle.names.proofs.Standing.{standing-whole}
+use Rattle.subtree.proofs.Standing.{standing-whole}
 use Rattle.names.proofs.Walks.{through, walk-both}
 
 -- ---- what the place past a thing tells of the thing
-
-pub passing-stops : {A : Type 0} (x : Parsed A) (r : ℕ) → passing x ≡ stop r → x ≡ stop r
-passing-stops (got a e) r h = let z : _≡_ {A = ℕ} 0 1 = cc in absurd (omega arith)
-passing-stops (stop k) r h = let z : k ≡ r = cc in rw z
 
 pub passing-fine : {A : Type 0} (x : Parsed A) (e : ℕ) → passing x ≡ got tt e → Fine x
 passing-fine (got a f) e h = tt

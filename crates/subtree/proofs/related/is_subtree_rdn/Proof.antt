@@ -1,9 +1,9 @@
 -- `is_subtree_rdn` answers the first fault of the first bad argument, else what the walk of the two finds. Assumes nothing.
 use mathlib.Core.Path.{_∙_}
 use borrow.Author.Needs.{needs}
 use Rattle.names.proofs.Whole.{holds, first-bad, second-bad, walked}
-use Rattle.names.proofs.related.is_subtree_rdn.Statement.{statement}
-use Rattle.names.proofs.related.is_subtree_rdn.Tie as tie
+use Rattle.subtree.proofs.related.is_subtree_rdn.Statement.{statement}
+use Rattle.subtree.proofs.related.is_subtree_rdn.Tie as tie
 
 whole-rdn-requires : tie.Need-whole-rdn-requires
 whole-rdn-requires c κs = search needs
@@ -36,15 +36,15 @@ enum-told-2 c = search needs
 subtree-rdn-walk-requires : tie.Need-subtree-rdn-walk-requires
 subtree-rdn-walk-requires c κs = search needs
 
-answer-requires : tie.Need-answer-requires
-answer-requires c κs = search needs
+of-requires : tie.Need-of-requires
+of-requires c κs = search needs
 
 returns-3 : tie.Need-returns-3
 returns-3 c =
     let w = c .before in
     let b = w .before in
     let a = b .before .before .before in
-    c .answer .ensures
+    c .of .ensures
     ∙ rw (w .subtree-rdn-walk .ensures)
     (walked _ _ _ _ _ _ (holds _ _ _ (a .before .before .whole-rdn .ensures) _ (a .enum-told .given .1)) (holds _ _ _ (b .before .before .whole-rdn2 .ensures) _ (b .enum-told2 .given .1)))
 
@@ -61,5 +61,5 @@ is-subtree-rdn-spec =
     returns-2
     enum-told-2
     subtree-rdn-walk-requires
-    answer-requires
+    of-requires
     returns-3)

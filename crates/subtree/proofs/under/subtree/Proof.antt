@@ -1,18 +1,19 @@
 -- `subtree` walks the first name's RDNs beside as many of the second's: what the second has past them does not count. Assumes nothing.
 use mathlib.Core.Path.{sym, ap, _∙_}
-use Rattle.names.specs.Names.{rdnP, nameP, isSubtreeRdn, isSubtreeOf}
+use Rattle.names.specs.Names.{rdnP, nameP}
+use Rattle.subtree.specs.Subtree.{isSubtreeRdn, isSubtreeOf}
 use Rattle.names.specs.Answers.{nameBegun}
 use Rattle.names.proofs.Walks.{through, walk-both, no-count-left, no-count-right}
-use Rattle.names.proofs.Subtrees.{name-row, longer-differs, front-judged}
+use Rattle.subtree.proofs.Rows.{name-row, longer-differs, front-judged}
 use borrow.Author.Needs.{needs}
-use Rattle.names.proofs.subtree.subtree.Statement.{statement}
-use Rattle.names.proofs.subtree.subtree.Tie as tie
+use Rattle.subtree.proofs.under.subtree.Statement.{statement}
+use Rattle.subtree.proofs.under.subtree.Tie as tie
 
 name-begins-requires : tie.Need-name-begins-requires
 name-begins-requires c κs = search needs
 
-enum-known-a : tie.Need-enum-known-a
-enum-known-a c = search needs
+enum-known-low : tie.Need-enum-known-low
+enum-known-low c = search needs
 
 enum-told : tie.Need-enum-told
 enum-told c = search needs
@@ -26,8 +27,8 @@ returns c =
 name-begins-requires-2 : tie.Need-name-begins-requires-2
 name-begins-requires-2 c κs = search needs
 
-enum-known-b : tie.Need-enum-known-b
-enum-known-b c = search needs
+enum-known-high : tie.Need-enum-known-high
+enum-known-high c = search needs
 
 enum-told-2 : tie.Need-enum-told-2
 enum-told-2 c = search needs
@@ -44,8 +45,8 @@ returns-3 c =
     let b = c .before .before .before .before in
     let a = b .before .before .before .before in
     let pre = a .before .before .before .before .before .pre in
-    let left = name-row _ _ _ _ (a .before .before .name-begins .ensures) (a .a .given .1) (pre .0) in
-    let right = name-row _ _ _ _ (b .before .before .name-begins2 .ensures) (b .b .given .1) (pre .1) in
+    let left = name-row _ _ _ _ (a .before .before .name-begins .ensures) (a .low .given .1) (pre .0) in
+    let right = name-row _ _ _ _ (b .before .before .name-begins2 .ensures) (b .high .given .1) (pre .1) in
     ap through (sym (longer-differs left right _ (c .if1 .taken))) ∙ walk-both (isSubtreeOf _) (nameP _ _) (nameP _ _)
 
 subtree-rdns-walk-requires : tie.Need-subtree-rdns-walk-requires
@@ -63,8 +64,8 @@ returns-4 c =
     let b = c .before .before .before .before .before .before .before in
     let a = b .before .before .before .before in
     let pre = a .before .before .before .before .before .pre in
-    let left = name-row _ _ _ _ (a .before .before .name-begins .ensures) (a .a .given .1) (pre .0) in
-    let right = name-row _ _ _ _ (b .before .before .name-begins2 .ensures) (b .b .given .1) (pre .1) in
+    let left = name-row _ _ _ _ (a .before .before .name-begins .ensures) (a .low .given .1) (pre .0) in
+    let right = name-row _ _ _ _ (b .before .before .name-begins2 .ensures) (b .high .given .1) (pre .1) in
     let w = c .before .before in
     ap through (sym (c .enum-told3 .given .1) ∙ w .subtree-rdns-walk .ensures)
     ∙ front-judged left right (isSubtreeRdn _) (w .before .if1 .left)
@@ -76,8 +77,8 @@ returns-5 c =
     let b = c .before .before .before .before .before .before .before in
     let a = b .before .before .before .before in
     let pre = a .before .before .before .before .before .pre in
-    let left = name-row _ _ _ _ (a .before .before .name-begins .ensures) (a .a .given .1) (pre .0) in
-    let right = name-row _ _ _ _ (b .before .before .name-begins2 .ensures) (b .b .given .1) (pre .1) in
+    let left = name-row _ _ _ _ (a .before .before .name-begins .ensures) (a .low .given .1) (pre .0) in
+    let right = name-row _ _ _ _ (b .before .before .name-begins2 .ensures) (b .high .given .1) (pre .1) in
     let w = c .before .before in
     ap through (sym (c .enum-told4 .given .1) ∙ w .subtree-rdns-walk .ensures)
     ∙ front-judged left right (isSubtreeRdn _) (w .before .if1 .left)
@@ -88,11 +89,11 @@ subtree-spec =
     tie.close
     (tie.spec
     name-begins-requires
-    enum-known-a
+    enum-known-low
     enum-told
     returns
     name-begins-requires-2
-    enum-known-b
+    enum-known-high
     enum-told-2
     returns-2
     returns-3

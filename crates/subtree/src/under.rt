@@ -1,35 +1,35 @@
 // Whether an RDN or a name lies under another.
-use crate::read::Attribute;
-use crate::read::AttributeAt;
-use crate::read::NameAt;
-use crate::read::Rdn;
-use crate::read::RdnAt;
-use crate::read::attribute_at;
-use crate::read::name_begins;
-use crate::read::rdn_at;
-use crate::read::rdn_begins;
-use crate::same::Walk;
-use crate::same::same_attribute;
 use fields::Past;
+use names::AttributeAt;
+use names::NameAt;
+use names::Rdn;
+use names::RdnAt;
+use names::Walk;
+use names::attr_walk;
+use names::attribute_at;
+use names::name_begins;
+use names::rdn_at;
+use names::rdn_begins;
 ghost use mathlib.Core.Path.{_≡_};
 ghost use Rattle.fields.specs.Fields.{many};
-ghost use Rattle.names.specs.Names.{attrP, rdnP, nameP, places, everyOf, rdnHasName, isSubtreeRdn, isSubtreeOf};
+ghost use Rattle.names.specs.Names.{attrP, rdnP, nameP, places};
 ghost use Rattle.names.specs.Answers.{bothSame};
-ghost use Rattle.names.specs.Walks.{attrOf, Short, Fine, walk, standing};
+ghost use Rattle.names.specs.Walks.{walk};
+ghost use Rattle.subtree.specs.Subtree.{everyOf, rdnHasName, isSubtreeRdn, isSubtreeOf};
+ghost use Rattle.subtree.specs.Rows.{Fine, standing, hasRead};
 
-// Whether some attribute of an RDN is the same as the attribute x of t.
-pub(crate) fn has_name(s: &[u8], rdn: Rdn, t: &[u8], x: Attribute, normalise: bool) -> bool
-    requires { ⌜ Short x (now t) ⌝ }
-    ensures { λ r. ⌜ r ≡ rdnHasName normalise (standing attrP (rdn .count) (now (s .entry)) (rdn .first)) (attrOf x (now (t .entry))) ⌝ }
+// Whether some attribute of an RDN of s is the same as the attribute at a place of t.
+pub(crate) fn has_name(s: &[u8], rdn: Rdn, t: &[u8], bt: usize, normalise: bool) -> bool
+    ensures { λ r. ⌜ r ≡ hasRead normalise (standing attrP (rdn .count) (now (s .entry)) (rdn .first)) (attrP (now (t .entry)) bt) ⌝ }
 {
     let mut at = rdn.first;
     let mut rest = rdn.count;
     while 0 < rest {
+        if let Walk::On { left: _, right: _ } = attr_walk(s, at, t, bt, normalise) {
+            return true;
+        }
         match attribute_at(s, at) {
             AttributeAt::Got(a) => {
-                if same_attribute(s, a, t, x, normalise) {
-                    return true;
-                }
                 at = a.value.end;
                 rest -= 1;
             }
@@ -42,7 +42,7 @@ pub(crate) fn has_name(s: &[u8], rdn: Rdn, t: &[u8], x: Attribute, normalise: bo
 }
 
 // Whether the RDN b of t has every attribute of the RDN a of s.
-pub(crate) fn has_names(s: &[u8], a: Rdn, t: &[u8], b: Rdn, normalise: bool) -> bool
+fn has_names(s: &[u8], a: Rdn, t: &[u8], b: Rdn, normalise: bool) -> bool
     ensures { λ r. ⌜ r ≡ everyOf
         (rdnHasName normalise (standing attrP (b .count) (now (t .entry)) (b .first)))
         (standing attrP (a .count) (now (s .entry)) (a .first)) ⌝ }
@@ -52,7 +52,7 @@ pub(crate) fn has_names(s: &[u8], a: Rdn, t: &[u8], b: Rdn, normalise: bool) -> 
     while 0 < rest {
         match attribute_at(s, at) {
             AttributeAt::Got(x) => {
-                if !has_name(t, b, s, x, normalise) {
+                if !has_name(t, b, s, at, normalise) {
                     return false;
                 }
                 at = x.value.end;
@@ -118,16 +118,16 @@ pub(crate) fn subtree(s: &[u8], t: &[u8], normalise: bool) -> bool
     requires { ⌜ Fine (nameP (now s) 0) × Fine (nameP (now t) 0) ⌝ }
     ensures { λ r. ⌜ r ≡ bothSame (isSubtreeOf normalise) (nameP (now (s .entry)) 0) (nameP (now (t .entry)) 0) ⌝ }
 {
-    let NameAt::Got(a) = name_begins(s, 0) else {
+    let NameAt::Got(low) = name_begins(s, 0) else {
         return false;
     };
-    let NameAt::Got(b) = name_begins(t, 0) else {
+    let NameAt::Got(high) = name_begins(t, 0) else {
         return false;
     };
-    if b.count < a.count {
+    if high.count < low.count {
         return false;
     }
-    match subtree_rdns_walk(s, a.first, t, b.first, a.count, normalise) {
+    match subtree_rdns_walk(s, low.first, t, high.first, low.count, normalise) {
         Walk::On { left: _, right: _ } => true,
         Walk::Differ => false,
     }

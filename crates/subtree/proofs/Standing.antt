@@ -6,7 +6,7 @@ use mathlib.Core.List.{List, []}
 use native.Mathlib.Omega.{arith}
 use Rattle.fields.specs.Fields.{Parsed, got, many}
 use Rattle.fields.proofs.Many.{many-split}
-use Rattle.names.specs.Walks.{with-rest, standing}
+use Rattle.subtree.specs.Rows.{with-rest, standing}
 
 module _ {A : Type 0} (p : List ℕ → ℕ → Parsed A) (s : List ℕ) where
   pub standing-none : (n at : ℕ) → n ≤ 0 → standing p n s at ≡ []

@@ -1,0 +1,40 @@
+-- What a relation of two arguments answers once both were judged through and something was found of them. Assumes nothing.
+use Prim.Native.Nat.{ℕ}
+use mathlib.Core.Path.{_≡_, refl, sym, ap, _∙_}
+use mathlib.Core.Bool.{Bool, cond}
+use mathlib.Core.List.{List}
+use native.Mathlib.Omega.{arith}
+use Rattle.fields.specs.Fields.{Parsed, got, stop, countP, countedP, whole}
+use Rattle.names.specs.Names.{attrP, rdnP}
+use Rattle.names.specs.Answers.{asked, bothSame}
+use Rattle.names.proofs.Whole.{Holds}
+use Rattle.subtree.specs.Subtree.{rdnHasName}
+use Rattle.subtree.specs.Rows.{Fine, standing, hasRead}
+use Rattle.subtree.proofs.Rows.{row-read}
+
+pub fine : {A : Type 0} (p : List ℕ → ℕ → Parsed A) (s : List ℕ) (e : ℕ) → Holds p s e → Fine (p s 0)
+fine p s e x = rw (x .read) tt
+
+-- both are fine, and what was found of the two is t
+pub found : {A : Type 0} (p : List ℕ → ℕ → Parsed A) (rel : A → A → Bool) (a b : List ℕ) (e f : ℕ) → Holds p a e → Holds p b f
+    → (t : Bool) → t ≡ bothSame rel (p a 0) (p b 0) → cond t 1 0 ≡ asked rel (whole p a) (whole p b)
+found p rel a b e f x y t h = rw (h, x .read, y .read, x .is, y .is)
+
+-- ---- an RDN and an attribute
+
+pub has-found : (normalise : Bool) (a b : List ℕ) (e f : ℕ) → Holds rdnP a e → Holds attrP b f
+    → (n first : ℕ) → countP 1 4 a 0 ≡ got n first → (t : Bool) → t ≡ hasRead normalise (standing attrP n a first) (attrP b 0)
+    → cond t 1 0 ≡ asked (rdnHasName normalise) (whole rdnP a) (whole attrP b)
+unfolding rdnP
+has-found normalise a b e f x y n first c t h =
+    let row = row-read 1 4 attrP a 0 n first c (fine rdnP a e x) in
+    let i : row .things ≡ x .thing = cc (row .whole, x .read) in
+    rw (h, row .stand, i, y .read, x .is, y .is)
+
+-- an RDN that fills its bytes was begun
+pub rdn-begun : (a : List ℕ) (e : ℕ) → Holds rdnP a e → (r : ℕ) → countP 1 4 a 0 ≡ stop r → ⊥
+unfolding rdnP countedP
+rdn-begun a e x r h =
+    let k : stop r ≡ got (x .thing) e = rw h at (x .read) in
+    let z : _≡_ {A = ℕ} 0 1 = cc in
+    omega arith

@@ -1,0 +1,4 @@
+pub mod Found
+pub mod Rows
+pub mod Standing
+pub mod Upstream
