@@ -6,8 +6,8 @@ use Prim.Native.String.{String}
 use Prim.Native.String as string
 use mathlib.Core.Path.{_≡_, refl}
 use mathlib.Core.Bool.{Bool, true, false, _&&_, Bool·beq}
-use mathlib.Core.List.{List, [], _∷_, _++_}
-use lib.ListN.{replicate, length, take, drop}
+use mathlib.Core.List.{List, [], _∷_}
+use lib.ListN.{replicate}
 use Rattle.text.specs.Bytes.{lowered, same, hasByte, startsWith, endsWith}
 use Rattle.text.specs.Normal.{normal, normalFrom}
 use Rattle.text.specs.Wildcard.{starDot, underStar, matchName}

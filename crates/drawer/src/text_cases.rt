@@ -1,7 +1,10 @@
 // Text: normal forms, the room they are written to, and patterns.
-use crate::say::{line, yes_no};
+use crate::say::line;
+use crate::say::yes_no;
 use libc::STDOUT_FILENO;
-use text::{match_name, normalize_string, Normalized};
+use text::Normalized;
+use text::match_name;
+use text::normalize_string;
 
 // The reply for s and so many bytes of lent room, and after it eight bytes of which that room is the start.
 fn normalised(label: &[u8], s: &[u8], lent: usize) {
@@ -47,7 +50,10 @@ pub fn patterns() {
     yes_no(b"* matches *", match_name(b"*", b"*"));
     yes_no(b"* matches a", match_name(b"*", b"a"));
     yes_no(b"* matches nothing at all", match_name(b"*", b""));
-    yes_no(b"the empty pattern matches the empty name", match_name(b"", b""));
+    yes_no(
+        b"the empty pattern matches the empty name",
+        match_name(b"", b""),
+    );
     yes_no(b"the empty pattern matches a", match_name(b"", b"a"));
     yes_no(b"*. matches a", match_name(b"*.", b"a"));
     yes_no(b"*. matches nothing at all", match_name(b"*.", b""));

@@ -1,7 +1,7 @@
 -- Two things walked side by side: what a walk answers, and the attributes that it compares. Assumes nothing.
-use Prim.Native.Nat.{ℕ, zero, suc, _≤_}
+use Prim.Native.Nat.{ℕ, _≤_}
 use mathlib.Core.Bool.{Bool, cond}
-use mathlib.Core.List.{List, [], _∷_}
+use mathlib.Core.List.{List}
 use lib.ListN.{length}
 use Rattle.fields.specs.Fields.{Parsed, got, stop, bytesOf}
 use Rattle.names.specs.Names.{Attr}

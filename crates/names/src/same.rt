@@ -137,13 +137,7 @@ pub fn attr_walk(s: &[u8], at: usize, t: &[u8], bt: usize, normalise: bool) -> W
 }
 
 // Whether two attributes that were read are the same.
-fn same_attribute(
-    s: &[u8],
-    a: Attribute,
-    t: &[u8],
-    b: Attribute,
-    normalise: bool,
-) -> bool
+fn same_attribute(s: &[u8], a: Attribute, t: &[u8], b: Attribute, normalise: bool) -> bool
     requires { ⌜ Short a (now s) × Short b (now t) ⌝ }
     ensures { λ r. ⌜ r ≡ sameAttr normalise (attrOf a (now (s .entry))) (attrOf b (now (t .entry))) ⌝ }
 {

@@ -1,6 +1,6 @@
 -- What a relation of two arguments answers once both were judged through and something was found of them. Assumes nothing.
 use Prim.Native.Nat.{ℕ}
-use mathlib.Core.Path.{_≡_, refl, sym, ap, _∙_}
+use mathlib.Core.Path.{_≡_}
 use mathlib.Core.Bool.{Bool, cond}
 use mathlib.Core.List.{List}
 use native.Mathlib.Omega.{arith}
@@ -25,7 +25,7 @@ found p rel a b e f x y t h = rw (h, x .read, y .read, x .is, y .is)
 pub has-found : (normalise : Bool) (a b : List ℕ) (e f : ℕ) → Holds rdnP a e → Holds attrP b f
     → (n first : ℕ) → countP 1 4 a 0 ≡ got n first → (t : Bool) → t ≡ hasRead normalise (standing attrP n a first) (attrP b 0)
     → cond t 1 0 ≡ asked (rdnHasName normalise) (whole rdnP a) (whole attrP b)
-unfolding rdnP
+unfolding rdnP hasRead
 has-found normalise a b e f x y n first c t h =
     let row = row-read 1 4 attrP a 0 n first c (fine rdnP a e x) in
     let i : row .things ≡ x .thing = cc (row .whole, x .read) in
