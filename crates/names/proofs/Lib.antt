@@ -1,4 +1,5 @@
 pub mod Attributes
+pub mod Frauds
 pub mod Pinned
 pub mod Upstream
 pub mod Walks
