@@ -36,6 +36,7 @@ pub fn same_names(file: &[u8], a: usize, b: usize, normalise: bool) -> bool
     }
 }
 
+// The names at two places: as many RDNs, the same place by place.
 pub(crate) fn dn_walk(s: &[u8], at: usize, t: &[u8], bt: usize, normalise: bool) -> Walk
     ensures { λ r. ⌜ r ≡ walk (sameDn normalise) (nameP (now (s .entry)) at) (nameP (now (t .entry)) bt) ⌝ }
 {
@@ -54,6 +55,7 @@ pub(crate) fn dn_walk(s: &[u8], at: usize, t: &[u8], bt: usize, normalise: bool)
     }
 }
 
+// n RDNs from each of two places on.
 fn rdns_walk(s: &[u8], at: usize, t: &[u8], bt: usize, n: usize, normalise: bool) -> Walk
     ensures { λ r. ⌜ r ≡ walk (places (sameRdn normalise)) (many rdnP n (now (s .entry)) at) (many rdnP n (now (t .entry)) bt) ⌝ }
 {
@@ -75,6 +77,7 @@ fn rdns_walk(s: &[u8], at: usize, t: &[u8], bt: usize, n: usize, normalise: bool
     Walk::On { left: a, right: b }
 }
 
+// The RDNs at two places: as many attributes, the same place by place.
 pub(crate) fn rdn_walk(s: &[u8], at: usize, t: &[u8], bt: usize, normalise: bool) -> Walk
     ensures { λ r. ⌜ r ≡ walk (sameRdn normalise) (rdnP (now (s .entry)) at) (rdnP (now (t .entry)) bt) ⌝ }
 {
@@ -93,6 +96,7 @@ pub(crate) fn rdn_walk(s: &[u8], at: usize, t: &[u8], bt: usize, normalise: bool
     }
 }
 
+// n attributes from each of two places on.
 fn attrs_walk(s: &[u8], at: usize, t: &[u8], bt: usize, n: usize, normalise: bool) -> Walk
     ensures { λ r. ⌜ r ≡ walk (places (sameAttr normalise)) (many attrP n (now (s .entry)) at) (many attrP n (now (t .entry)) bt) ⌝ }
 {

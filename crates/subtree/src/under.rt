@@ -92,6 +92,7 @@ pub(crate) fn subtree_rdn_walk(s: &[u8], at: usize, t: &[u8], bt: usize, normali
     }
 }
 
+// Where n RDNs from each of two places on end, if each of the first is a subtree of its counterpart.
 fn subtree_rdns_walk(s: &[u8], at: usize, t: &[u8], bt: usize, n: usize, normalise: bool) -> Walk
     ensures { λ r. ⌜ r ≡ walk (places (isSubtreeRdn normalise)) (many rdnP n (now (s .entry)) at) (many rdnP n (now (t .entry)) bt) ⌝ }
 {
