@@ -1,19 +1,47 @@
-// Runs the leaf questions on worked cases and on the edges around each, and writes a line for every one.
-// What each line must be stands in the file stdout beside this folder.
-mod keys_cases;
-mod names_cases;
+// Runs the leaf questions on the cases of standard input and writes a line for each: its label, and the answer.
+// What each line must be stands in the file stdout beside this folder, the cases in the file stdin.
+//
+// A line is a case, its fields between bars:
+//     LABEL|normalize_string|ROOM|STRING
+//     LABEL|match_name|PATTERN|NAME
+//     LABEL|ip_addr_in_range|RANGE|ADDRESS
+//     LABEL|RELATION|FLAG|ARGUMENT|ARGUMENT
+//     LABEL|check_auth_key_id|AUTHORITY KEY ID|AUTHORITY SERIAL|SUBJECT KEY ID|SERIAL
+// ROOM is how many of eight bytes ######## are lent. RELATION is same_attr, same_rdn, same_dn, rdn_has_name, is_subtree_rdn
+// or is_subtree_of, FLAG is `as they stand` or `normalised`. A key id or an authority serial that is absent is `none`.
+// In an argument each byte stands for itself, except `\XX`, two hexadecimal digits, which is that byte.
+// Empty lines and lines that begin with # are skipped; a line of no form above is answered `unknown question`.
+// An argument has at most 4,096 bytes and the whole input 65,536: what is over is not read.
+mod ask;
+mod bytes;
+mod lines;
 mod say;
-mod text_cases;
+
+use libc::STDIN_FILENO;
+use lines::count;
+use lines::part;
 
 fn main() {
-    text_cases::normal_forms();
-    text_cases::room();
-    text_cases::patterns();
-    names_cases::attributes();
-    names_cases::rdns();
-    names_cases::names();
-    names_cases::faults();
-    names_cases::limits();
-    keys_cases::key_ids();
-    keys_cases::addresses();
+    let mut buf = io::large_buffer();
+    let n = io::read_full(STDIN_FILENO, &mut buf);
+    answer_all(&buf[..n]);
+}
+
+fn answer_all(file: &[u8]) {
+    let n = count(file, b'\n');
+    let mut i: usize = 0;
+    while i < n {
+        let line = part(file, b'\n', i);
+        if is_case(line) {
+            ask::answer(line);
+        }
+        i += 1;
+    }
+}
+
+fn is_case(line: &[u8]) -> bool {
+    if line.len() == 0 {
+        return false;
+    }
+    line[0] != b'#'
 }

@@ -1,31 +1,46 @@
-// One line for each case: what it shows, and the answer.
+// What is written: one line for each case, its label and the reply.
+use crate::lines::part;
 use libc::STDOUT_FILENO;
 use names::Related;
+use text::Normalized;
 
-pub fn line(label: &[u8], answer: &[u8]) {
-    io::write_all(STDOUT_FILENO, label);
-    io::write_all(STDOUT_FILENO, b": ");
-    io::write_all(STDOUT_FILENO, answer);
-    io::write_all(STDOUT_FILENO, b"\n");
+// A reply by its number: 0 is no, 1 is yes, up to 10 a fault has its own, past that the question is not known.
+pub const UNKNOWN: usize = 11;
+
+pub fn yes_no(yes: bool) -> usize {
+    if yes { 1 } else { 0 }
 }
 
-pub fn yes_no(label: &[u8], yes: bool) {
-    if yes {
-        line(label, b"yes");
-    } else {
-        line(label, b"no");
-    }
-}
-
-pub fn related(label: &[u8], r: Related) {
+pub fn related(r: Related) -> usize {
     match r {
-        Related::No => line(label, b"no"),
-        Related::Yes => line(label, b"yes"),
-        Related::Stop(fault) => {
-            io::write_all(STDOUT_FILENO, label);
-            io::write_all(STDOUT_FILENO, b": ");
-            io::print_decimal(STDOUT_FILENO, fault.number() as u64);
-            io::write_all(STDOUT_FILENO, b"\n");
-        }
+        Related::No => 0,
+        Related::Yes => 1,
+        Related::Stop(fault) => fault.number() as usize,
     }
+}
+
+pub fn reply(label: &[u8], number: usize) {
+    put(label);
+    put(b": ");
+    put(part(b"no|yes|2|3|4|5|6|7|8|9|10|unknown question", b'|', number));
+    put(b"\n");
+}
+
+// The reply, and after it the eight bytes of which the lent room is the start.
+pub fn normalised(label: &[u8], reply: Normalized, room: &[u8; 8]) {
+    put(label);
+    match reply {
+        Normalized::Length(n) => {
+            put(b": length ");
+            io::print_decimal(STDOUT_FILENO, n as u64);
+        }
+        Normalized::NoRoom => put(b": 10"),
+    }
+    put(b", room: ");
+    put(room);
+    put(b"\n");
+}
+
+fn put(s: &[u8]) {
+    io::write_all(STDOUT_FILENO, s);
 }

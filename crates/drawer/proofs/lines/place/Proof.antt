@@ -1,0 +1,59 @@
+use borrow.Author.Needs.{needs}
+use native.Mathlib.Omega.{arith}
+use Prim.Native.Nat.{_≤_, _-_}
+use Rattle.drawer.proofs.lines.place.Statement.{statement}
+use Rattle.drawer.proofs.lines.place.Tie as tie
+use Rattle.drawer.proofs.lines.place.Reads as reads
+use Rattle.drawer.proofs.lines.place.Lts as lts
+use Rattle.drawer.proofs.lines.count.Reads as count-reads
+use Rattle.drawer.proofs.lines.part.Reads as part-reads
+use Rattle.text.proofs.equal.Reads as equal-reads
+
+abbrev Inv-loop : tie.InvT-loop
+Inv-loop names name n i₀ i = i ≤ n
+
+abbrev μ-loop : tie.MeasureT-loop
+μ-loop names name n i₀ i = n - i
+
+count-requires : tie.Need-count-requires Inv-loop μ-loop
+count-requires c κs = search needs
+
+loop-holds : tie.Need-loop-holds Inv-loop μ-loop
+loop-holds c = search needs
+
+part-requires : tie.Need-part-requires Inv-loop μ-loop
+part-requires c κs = search needs
+
+equal-requires : tie.Need-equal-requires Inv-loop μ-loop
+equal-requires c κs = search needs
+
+returns : tie.Need-returns Inv-loop μ-loop
+returns c = search needs
+
+add-i : tie.Need-add-i Inv-loop μ-loop
+add-i c = search needs
+
+loop-less : tie.Need-loop-less Inv-loop μ-loop
+loop-less c = search needs
+
+loop-again : tie.Need-loop-again Inv-loop μ-loop
+loop-again c = search needs
+
+returns-2 : tie.Need-returns-2 Inv-loop μ-loop
+returns-2 c = search needs
+
+pub place-spec : {M : Type 1} → statement M
+place-spec =
+    tie.close
+    (tie.spec
+    Inv-loop
+    μ-loop
+    count-requires
+    loop-holds
+    part-requires
+    equal-requires
+    returns
+    add-i
+    loop-less
+    loop-again
+    returns-2)

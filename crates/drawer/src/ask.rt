@@ -1,0 +1,114 @@
+// A case answered by its reply (say.rt). How many fields it has tells its form, a name its question.
+use crate::bytes::unescape;
+use crate::lines::count;
+use crate::lines::part;
+use crate::lines::place;
+use crate::say;
+use crate::say::UNKNOWN;
+use keys::check_auth_key_id;
+use keys::ip_addr_in_range;
+use names::same_attr;
+use names::same_dn;
+use names::same_rdn;
+use subtree::is_subtree_of;
+use subtree::is_subtree_rdn;
+use subtree::rdn_has_name;
+use text::equal;
+use text::match_name;
+use text::normalize_string;
+
+// Answers the case of a line.
+pub fn answer(line: &[u8]) {
+    let mut a = io::buffer();
+    let mut b = io::buffer();
+    let mut c = io::buffer();
+    let mut d = io::buffer();
+    ask(
+        line,
+        unescape(line, 2, &mut a),
+        unescape(line, 3, &mut b),
+        unescape(line, 4, &mut c),
+        unescape(line, 5, &mut d),
+    );
+}
+
+fn ask(line: &[u8], a: &[u8], b: &[u8], c: &[u8], d: &[u8]) {
+    let label = part(line, b'|', 0);
+    let question = part(line, b'|', 1);
+    match count(line, b'|') {
+        3 => two(label, question, a, b),
+        4 => say::reply(label, related(question, a, b, c)),
+        5 => say::reply(label, key_ids(question, a, b, c, d)),
+        _ => say::reply(label, UNKNOWN),
+    }
+}
+
+// normalize_string|ROOM|STRING, match_name|PATTERN|NAME and ip_addr_in_range|RANGE|ADDRESS
+fn two(label: &[u8], question: &[u8], a: &[u8], b: &[u8]) {
+    match place(b"normalize_string|match_name|ip_addr_in_range|", question) {
+        0 => normal_form(label, a, b),
+        1 => say::reply(label, say::yes_no(match_name(a, b))),
+        2 => say::reply(label, say::yes_no(ip_addr_in_range(a, b))),
+        _ => say::reply(label, UNKNOWN),
+    }
+}
+
+fn normal_form(label: &[u8], number: &[u8], s: &[u8]) {
+    let lent = place(b"0|1|2|3|4|5|6|7|8|", number);
+    if 8 < lent {
+        say::reply(label, UNKNOWN);
+        return;
+    }
+    let mut room = [b'#'; 8];
+    let answer = normalize_string(s, &mut room[0..lent]);
+    say::normalised(label, answer, &room);
+}
+
+// RELATION|FLAG|ARGUMENT|ARGUMENT
+fn related(question: &[u8], flag: &[u8], a: &[u8], b: &[u8]) -> usize {
+    match place(b"as they stand|normalised|", flag) {
+        0 => relation(question, a, b, false),
+        1 => relation(question, a, b, true),
+        _ => UNKNOWN,
+    }
+}
+
+fn relation(question: &[u8], a: &[u8], b: &[u8], normalise: bool) -> usize {
+    match relation_place(question) {
+        0 => say::related(same_attr(a, b, normalise)),
+        1 => say::related(same_rdn(a, b, normalise)),
+        2 => say::related(same_dn(a, b, normalise)),
+        3 => say::related(rdn_has_name(a, b, normalise)),
+        4 => say::related(is_subtree_rdn(a, b, normalise)),
+        5 => say::related(is_subtree_of(a, b, normalise)),
+        _ => UNKNOWN,
+    }
+}
+
+fn relation_place(question: &[u8]) -> usize {
+    place(
+        b"same_attr|same_rdn|same_dn|rdn_has_name|is_subtree_rdn|is_subtree_of|",
+        question,
+    )
+}
+
+// check_auth_key_id|AUTHORITY KEY ID|AUTHORITY SERIAL|SUBJECT KEY ID|SERIAL
+// A part that is absent is handed over as the bytes `none`, which must not be read.
+fn key_ids(question: &[u8], akid: &[u8], aserial: &[u8], skid: &[u8], serial: &[u8]) -> usize {
+    if !equal(question, b"check_auth_key_id") {
+        return UNKNOWN;
+    }
+    say::yes_no(check_auth_key_id(
+        present(akid),
+        akid,
+        present(aserial),
+        aserial,
+        present(skid),
+        skid,
+        serial,
+    ))
+}
+
+fn present(part: &[u8]) -> bool {
+    !equal(part, b"none")
+}
