@@ -3,12 +3,6 @@ use native.Mathlib.Omega.{arith}
 use Prim.Native.Nat.{_≤_, _-_}
 use Rattle.drawer.proofs.answer_all.Statement.{statement}
 use Rattle.drawer.proofs.answer_all.Tie as tie
-use Rattle.drawer.proofs.answer_all.Reads as reads
-use Rattle.drawer.proofs.answer_all.Lts as lts
-use Rattle.drawer.proofs.ask.answer.Reads as answer-reads
-use Rattle.drawer.proofs.is_case.Reads as is-case-reads
-use Rattle.drawer.proofs.lines.count.Reads as count-reads
-use Rattle.drawer.proofs.lines.part.Reads as part-reads
 
 abbrev Inv-loop : tie.InvT-loop
 Inv-loop file n i₀ i = i ≤ n

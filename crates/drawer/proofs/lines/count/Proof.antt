@@ -5,8 +5,6 @@ use lib.ListN.{length}
 use mathlib.Core.Logic.{⊎-elim}
 use Rattle.drawer.proofs.lines.count.Statement.{statement}
 use Rattle.drawer.proofs.lines.count.Tie as tie
-use Rattle.drawer.proofs.lines.count.Reads as reads
-use Rattle.drawer.proofs.lines.count.Lts as lts
 
 abbrev Inv-loop : tie.InvT-loop
 Inv-loop s b n₀ i₀ n i = (i ≤ length s) × (n ≤ i)

@@ -5,8 +5,6 @@ use lib.ListN.{length}
 use mathlib.Core.Logic.{⊎-elim}
 use Rattle.drawer.proofs.lines.part.Statement.{statement}
 use Rattle.drawer.proofs.lines.part.Tie as tie
-use Rattle.drawer.proofs.lines.part.Reads as reads
-use Rattle.drawer.proofs.lines.part.Lts as lts
 
 abbrev Inv-loop : tie.InvT-loop
 Inv-loop s b place start₀ left₀ i₀ start left i = (start ≤ i) × (i ≤ length s)

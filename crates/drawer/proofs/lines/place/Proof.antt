@@ -3,11 +3,6 @@ use native.Mathlib.Omega.{arith}
 use Prim.Native.Nat.{_≤_, _-_}
 use Rattle.drawer.proofs.lines.place.Statement.{statement}
 use Rattle.drawer.proofs.lines.place.Tie as tie
-use Rattle.drawer.proofs.lines.place.Reads as reads
-use Rattle.drawer.proofs.lines.place.Lts as lts
-use Rattle.drawer.proofs.lines.count.Reads as count-reads
-use Rattle.drawer.proofs.lines.part.Reads as part-reads
-use Rattle.text.proofs.equal.Reads as equal-reads
 
 abbrev Inv-loop : tie.InvT-loop
 Inv-loop names name n i₀ i = i ≤ n
