@@ -1,0 +1,2 @@
+pub mod Ends
+pub mod Flags
