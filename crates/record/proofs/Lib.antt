@@ -1,2 +1,3 @@
 pub mod Ends
 pub mod Flags
+pub mod Rows
