@@ -1,2 +1,5 @@
+pub mod After
 pub mod Ends
 pub mod Flags
+pub mod Meaning
+pub mod Pinned
