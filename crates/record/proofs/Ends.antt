@@ -13,7 +13,3 @@ pub record Ends {A : Type 0} (x : Parsed A) (e : ℕ) : Type 0 where
 pub passing-got : {A : Type 0} (x : Parsed A) (e : ℕ) → passing x ≡ got tt e → Ends x e
 passing-got (got a f) e h = let k : f ≡ e = cc in record { value = a; is = cc }
 passing-got (stop r) e h = let z : _≡_ {A = ℕ} 0 1 = cc in absurd (omega arith)
-
-pub passing-stops : {A : Type 0} (x : Parsed A) (r : ℕ) → passing x ≡ stop r → x ≡ stop r
-passing-stops (got a f) r h = let z : _≡_ {A = ℕ} 0 1 = cc in absurd (omega arith)
-passing-stops (stop q) r h = cc

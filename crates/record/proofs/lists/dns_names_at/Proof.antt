@@ -3,8 +3,9 @@ use borrow.Author.Needs.{needs}
 use mathlib.Core.Path.{sym, ap, _∙_}
 use Rattle.fields.specs.Fields.{many}
 use Rattle.fields.specs.Answers.{counted, passed}
+use Rattle.names.proofs.Whole.{passing-stops}
 use Rattle.record.specs.Record.{dnsNameP, rowP}
-use Rattle.record.proofs.Ends.{passing-got, passing-stops}
+use Rattle.record.proofs.Ends.{passing-got}
 use Rattle.record.proofs.lists.dns_names_at.Statement.{statement}
 use Rattle.record.proofs.lists.dns_names_at.Tie as tie
 
