@@ -1,0 +1,6 @@
+pub mod After
+pub mod Ends
+pub mod Flags
+pub mod Meaning
+pub mod Pinned
+pub mod Rows

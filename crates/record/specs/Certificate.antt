@@ -1,0 +1,60 @@
+-- What a record says of a certificate: byte lists, numbers and options, and nothing of where they stand. Assumes nothing.
+use Prim.Native.Nat.{ℕ}
+use mathlib.Core.Bool.{Bool, cond}
+use mathlib.Core.List.{List, []}
+use mathlib.Core.Option.{Option, none, some}
+use Rattle.fields.specs.Fields.{Parsed, got, stop, after, many, bytesOf}
+use Rattle.names.specs.Names.{Attr, nameP}
+use Rattle.record.specs.declared.Record.{Record}
+use Rattle.record.specs.Record.{flag, usageP, dnsNameP, recordP}
+
+pub record Certificate : Type 0 where
+  pub version : ℕ
+  pub flags : ℕ
+  pub not-before : ℕ
+  pub not-after : ℕ
+  pub serial : List ℕ
+  pub outer : List ℕ
+  pub inner : List ℕ
+  pub issuer : List (List Attr)
+  pub subject : List (List Attr)
+  pub authority-key-id : Option (List ℕ)
+  pub authority-serial : Option (List ℕ)
+  pub subject-key-id : Option (List ℕ)
+  pub path-length : Option ℕ
+  pub usages : List ℕ
+  pub dns-names : List (List ℕ)
+
+-- the list that was read; none where it can't be read
+abbrev pub listOf : {A : Type 0} → Parsed (List A) → List A
+listOf (got l e) = l
+listOf (stop r) = []
+
+-- a part, where its flag is set
+abbrev pub present : {A : Type 0} → Bool → A → Option A
+present b a = cond b (some a) none
+
+-- what a record's numbers and places say over a file, whatever they are
+unfoldable pub certificateOf : Record → List ℕ → Certificate
+certificateOf r s =
+    record {
+      version = r .head .version;
+      flags = r .head .flags;
+      not-before = r .head .«not_before»;
+      not-after = r .head .«not_after»;
+      serial = bytesOf (r .strings .serial) s;
+      outer = bytesOf (r .strings .outer) s;
+      inner = bytesOf (r .strings .inner) s;
+      issuer = listOf (nameP s (r .names .issuer));
+      subject = listOf (nameP s (r .names .subject));
+      authority-key-id = present (flag 1 (r .head .flags)) (bytesOf (r .extensions .«key_ids» .authority) s);
+      authority-serial = present (flag 2 (r .head .flags)) (bytesOf (r .extensions .«key_ids» .«authority_serial») s);
+      subject-key-id = present (flag 4 (r .head .flags)) (bytesOf (r .extensions .«key_ids» .subject) s);
+      path-length = present (flag 16 (r .head .flags)) (r .extensions .«path_length»);
+      usages = listOf (many usageP (r .extensions .usages .count) s (r .extensions .usages .first));
+      dns-names = listOf (many dnsNameP (r .extensions .«dns_names» .count) s (r .extensions .«dns_names» .first));
+    }
+
+-- the certificate whose record stands at a place
+unfoldable pub certificateP : List ℕ → ℕ → Parsed Certificate
+certificateP s at = after (recordP s at) (λ r e. got (certificateOf r s) e)

@@ -1,0 +1,3 @@
+pub mod Record
+pub mod Certificate
+pub mod Answers

@@ -1,0 +1,117 @@
+// The head of a record: version, flags, and the two dates.
+use fields::CountAt;
+use fields::Fault;
+use fields::NumberAt;
+use fields::count_at;
+use fields::u64_at;
+ghost use mathlib.Core.Path.{_≡_};
+ghost use Rattle.record.specs.Record.{flagsP, datesP, headP};
+ghost use Rattle.record.specs.Answers.{flagged, dated, headed};
+
+pub struct Head {
+    pub version: usize,
+    pub flags: usize,
+    pub not_before: u64,
+    pub not_after: u64,
+}
+
+pub(crate) enum HeadAt {
+    Got { head: Head, next: usize },
+    Stop(Fault),
+}
+
+enum FlagsAt {
+    Got {
+        version: usize,
+        flags: usize,
+        next: usize,
+    },
+    Stop(Fault),
+}
+
+enum DatesAt {
+    Got {
+        not_before: u64,
+        not_after: u64,
+        next: usize,
+    },
+    Stop(Fault),
+}
+
+pub(crate) fn head_at(file: &[u8], at: usize) -> HeadAt
+    ensures { λ r. ⌜ headed r ≡ headP (now (file .entry)) at ⌝ }
+{
+    match flags_at(file, at) {
+        FlagsAt::Got {
+            version,
+            flags,
+            next: a,
+        } => match dates_at(file, a) {
+            DatesAt::Got {
+                not_before,
+                not_after,
+                next,
+            } => HeadAt::Got {
+                head: Head {
+                    version,
+                    flags,
+                    not_before,
+                    not_after,
+                },
+                next,
+            },
+            DatesAt::Stop(fault) => HeadAt::Stop(fault),
+        },
+        FlagsAt::Stop(fault) => HeadAt::Stop(fault),
+    }
+}
+
+// Any version; flags of which 16 needs 8 and 64 needs 32, judged when they are read.
+fn flags_at(file: &[u8], at: usize) -> FlagsAt
+    ensures { λ r. ⌜ flagged r ≡ flagsP (now (file .entry)) at ⌝ }
+{
+    match count_at(file, at, 0, 255) {
+        CountAt::Got {
+            count: version,
+            next: a,
+        } => match count_at(file, a, 0, 255) {
+            CountAt::Got { count: flags, next } => {
+                if flags / 8 % 2 < flags / 16 % 2 {
+                    return FlagsAt::Stop(Fault::BadValue);
+                }
+                if flags / 32 % 2 < flags / 64 % 2 {
+                    return FlagsAt::Stop(Fault::BadValue);
+                }
+                FlagsAt::Got {
+                    version,
+                    flags,
+                    next,
+                }
+            }
+            CountAt::Stop(fault) => FlagsAt::Stop(fault),
+        },
+        CountAt::Stop(fault) => FlagsAt::Stop(fault),
+    }
+}
+
+fn dates_at(file: &[u8], at: usize) -> DatesAt
+    ensures { λ r. ⌜ dated r ≡ datesP (now (file .entry)) at ⌝ }
+{
+    match u64_at(file, at) {
+        NumberAt::Got {
+            value: not_before,
+            next: a,
+        } => match u64_at(file, a) {
+            NumberAt::Got {
+                value: not_after,
+                next,
+            } => DatesAt::Got {
+                not_before,
+                not_after,
+                next,
+            },
+            NumberAt::Stop(fault) => DatesAt::Stop(fault),
+        },
+        NumberAt::Stop(fault) => DatesAt::Stop(fault),
+    }
+}
