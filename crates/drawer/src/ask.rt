@@ -1,4 +1,4 @@
-// A case answered by its reply (say.rt). How many fields it has tells its form, a name its question.
+// A case answered by its reply (say.rt). How many fields it has tells its form; its question is looked up by name.
 use crate::bytes::unescape;
 use crate::lines::count;
 use crate::lines::part;
@@ -17,7 +17,7 @@ use text::equal;
 use text::match_name;
 use text::normalize_string;
 
-// Answers the case of a line.
+// Answers a line, with what stands behind its question.
 pub fn answer(line: &[u8]) {
     let mut a = io::buffer();
     let mut b = io::buffer();
@@ -85,6 +85,7 @@ fn relation(question: &[u8], a: &[u8], b: &[u8], normalise: bool) -> usize {
     }
 }
 
+// The place of a relation among the arms above. In a function of its own: a long string lengthens every step of its function's proof.
 fn relation_place(question: &[u8]) -> usize {
     place(
         b"same_attr|same_rdn|same_dn|rdn_has_name|is_subtree_rdn|is_subtree_of|",

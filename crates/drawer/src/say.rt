@@ -4,7 +4,7 @@ use libc::STDOUT_FILENO;
 use names::Related;
 use text::Normalized;
 
-// A reply by its number: 0 is no, 1 is yes, up to 10 a fault has its own, past that the question is not known.
+// A reply is a number: 0 is no, 1 is yes, a fault has its own up to 10, and this one is that there is no such question.
 pub const UNKNOWN: usize = 11;
 
 pub fn yes_no(yes: bool) -> usize {

@@ -1,5 +1,5 @@
+-- `drawer::answer_all` meets its contract. The loop's invariant: no more lines were passed than there are. Assumes nothing.
 use borrow.Author.Needs.{needs}
-use native.Mathlib.Omega.{arith}
 use Prim.Native.Nat.{_≤_, _-_}
 use Rattle.drawer.proofs.answer_all.Statement.{statement}
 use Rattle.drawer.proofs.answer_all.Tie as tie

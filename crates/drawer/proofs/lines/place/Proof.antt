@@ -1,5 +1,5 @@
+-- `drawer::lines::place` meets its contract. The loop's invariant: no more names were passed than there are. Assumes nothing.
 use borrow.Author.Needs.{needs}
-use native.Mathlib.Omega.{arith}
 use Prim.Native.Nat.{_≤_, _-_}
 use Rattle.drawer.proofs.lines.place.Statement.{statement}
 use Rattle.drawer.proofs.lines.place.Tie as tie
