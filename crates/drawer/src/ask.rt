@@ -7,6 +7,7 @@ use crate::say;
 use crate::say::UNKNOWN;
 use keys::check_auth_key_id;
 use keys::ip_addr_in_range;
+use names::Related;
 use names::same_attr;
 use names::same_dn;
 use names::same_rdn;
@@ -66,26 +67,29 @@ fn normal_form(label: &[u8], number: &[u8], s: &[u8]) {
 
 // RELATION|FLAG|ARGUMENT|ARGUMENT
 fn related(question: &[u8], flag: &[u8], a: &[u8], b: &[u8]) -> usize {
-    match place(b"as they stand|normalised|", flag) {
-        0 => relation(question, a, b, false),
-        1 => relation(question, a, b, true),
-        _ => UNKNOWN,
+    let normalise = place(b"as they stand|normalised|", flag);
+    let which = relation_place(question);
+    if 1 < normalise {
+        return UNKNOWN;
+    }
+    if 5 < which {
+        return UNKNOWN;
+    }
+    say::related(relation(which, a, b, normalise == 1))
+}
+
+fn relation(which: usize, a: &[u8], b: &[u8], normalise: bool) -> Related {
+    match which {
+        0 => same_attr(a, b, normalise),
+        1 => same_rdn(a, b, normalise),
+        2 => same_dn(a, b, normalise),
+        3 => rdn_has_name(a, b, normalise),
+        4 => is_subtree_rdn(a, b, normalise),
+        _ => is_subtree_of(a, b, normalise),
     }
 }
 
-fn relation(question: &[u8], a: &[u8], b: &[u8], normalise: bool) -> usize {
-    match relation_place(question) {
-        0 => say::related(same_attr(a, b, normalise)),
-        1 => say::related(same_rdn(a, b, normalise)),
-        2 => say::related(same_dn(a, b, normalise)),
-        3 => say::related(rdn_has_name(a, b, normalise)),
-        4 => say::related(is_subtree_rdn(a, b, normalise)),
-        5 => say::related(is_subtree_of(a, b, normalise)),
-        _ => UNKNOWN,
-    }
-}
-
-// The place of a relation among the arms above. In a function of its own: a long string lengthens every step of its function's proof.
+// The place of a relation among the arms above; 6 where it is none. It stands alone since a string lengthens every step of its function's proof.
 fn relation_place(question: &[u8]) -> usize {
     place(
         b"same_attr|same_rdn|same_dn|rdn_has_name|is_subtree_rdn|is_subtree_of|",

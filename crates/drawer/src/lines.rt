@@ -9,14 +9,14 @@ pub fn part(s: &[u8], b: u8, place: usize) -> &[u8] {
     while i < s.len() {
         if s[i] == b {
             if left == 0 {
-                return &s[start..i];
+                break;
             }
             left -= 1;
             start = i + 1;
         }
         i += 1;
     }
-    &s[start..]
+    &s[start..i]
 }
 
 // How many times b stands in s.

@@ -20,18 +20,6 @@ loop-holds c = search needs
 shared-slice-read-if1 : tie.Need-shared-slice-read-if1 Inv-loop μ-loop
 shared-slice-read-if1 c = search needs
 
-sub-result : tie.Need-sub-result Inv-loop μ-loop
-sub-result c = search needs
-
-part-result-start : tie.Need-part-result-start Inv-loop μ-loop
-part-result-start c = search needs
-
-part-result-end : tie.Need-part-result-end Inv-loop μ-loop
-part-result-end c = search needs
-
-returns : tie.Need-returns Inv-loop μ-loop
-returns c = search needs
-
 sub-left : tie.Need-sub-left Inv-loop μ-loop
 sub-left c = search needs
 
@@ -47,17 +35,17 @@ loop-less c = search needs
 loop-again : tie.Need-loop-again Inv-loop μ-loop
 loop-again c = ⊎-elim (λ w. omega arith) (λ w. omega arith) (c .if1 .came)
 
-sub-result-2 : tie.Need-sub-result-2 Inv-loop μ-loop
-sub-result-2 c = search needs
+sub-result : tie.Need-sub-result Inv-loop μ-loop
+sub-result c = search needs
 
-part-result-start-2 : tie.Need-part-result-start-2 Inv-loop μ-loop
-part-result-start-2 c = search needs
+part-result-start : tie.Need-part-result-start Inv-loop μ-loop
+part-result-start c = search needs
 
-part-result-end-2 : tie.Need-part-result-end-2 Inv-loop μ-loop
-part-result-end-2 c = search needs
+part-result-end : tie.Need-part-result-end Inv-loop μ-loop
+part-result-end c = search needs
 
-returns-2 : tie.Need-returns-2 Inv-loop μ-loop
-returns-2 c = search needs
+returns : tie.Need-returns Inv-loop μ-loop
+returns c = search needs
 
 pub part-spec : {M : Type 1} → statement M
 part-spec =
@@ -67,16 +55,12 @@ part-spec =
     μ-loop
     loop-holds
     shared-slice-read-if1
-    sub-result
-    part-result-start
-    part-result-end
-    returns
     sub-left
     add-start
     add-i
     loop-less
     loop-again
-    sub-result-2
-    part-result-start-2
-    part-result-end-2
-    returns-2)
+    sub-result
+    part-result-start
+    part-result-end
+    returns)
