@@ -1,0 +1,3 @@
+pub mod Card
+pub mod Content
+pub mod Answers

@@ -1,0 +1,146 @@
+// The card file: its sections in their order, read once from left to right. A card that was read is numbers and places in the file;
+// nothing is copied out of it. Who issued whom, and what is believed, is left to the crates above.
+mod bundle;
+mod places;
+mod roots;
+mod task;
+mod verdicts;
+
+pub use bundle::Bundle;
+use bundle::bundle_after;
+use fields::CountAt;
+use fields::Fault;
+use fields::Past;
+use fields::count_at;
+pub use places::BundlePlace;
+pub use places::RootPlace;
+pub use roots::Roots;
+use roots::roots_after;
+pub use task::Host;
+pub use task::Task;
+use task::task_after;
+pub use verdicts::Verdicts;
+use verdicts::verdicts_after;
+ghost use mathlib.Core.Path.{_≡_};
+ghost use mathlib.Core.Bool.{cond};
+ghost use lib.Dec.{leb, ltb};
+ghost use lib.ListN.{length};
+ghost use Rattle.fields.specs.Fields.{got, stop, after};
+ghost use Rattle.fields.specs.Answers.{passed, passing};
+ghost use Rattle.card.specs.Card.{editionP, fileP, fresh-card};
+ghost use Rattle.card.specs.Answers.{held, told, answer};
+
+// A card file that was read.
+pub struct Card {
+    pub roots: Roots,
+    pub bundle: Bundle,
+    pub verdicts: Verdicts,
+    pub task: Task,
+}
+
+impl Card {
+    pub const MOST: usize = 65535;
+
+    pub const EDITION: usize = 1;
+
+    // The card of a file that can't be read: nothing but zeros.
+    pub fn new() -> Card
+        ensures { λ r. ⌜ r ≡ fresh-card ⌝ }
+    {
+        Card {
+            roots: Roots::new(),
+            bundle: Bundle::new(),
+            verdicts: Verdicts::new(),
+            task: Task::new(),
+        }
+    }
+}
+
+pub enum Outcome {
+    Read,
+    Stop(Fault),
+}
+
+// What reading a file came to; with a fault the card is nothing but zeros.
+pub struct Reading {
+    pub outcome: Outcome,
+    pub card: Card,
+}
+
+// A file's card, or the first fault from left to right.
+pub fn read(file: &[u8]) -> Reading
+    ensures { λ r. ⌜ told r ≡ answer (fileP (now (file .entry))) ⌝ }
+{
+    let begun = edition_past(file);
+    let roots_read = roots_after(file, begun);
+    let after_roots = roots_read.past;
+    let roots = roots_read.roots;
+    let bundle_read = bundle_after(file, after_roots);
+    let after_bundle = bundle_read.past;
+    let bundle = bundle_read.bundle;
+    let verdicts_read = verdicts_after(file, after_bundle, roots.count, bundle.count);
+    let after_verdicts = verdicts_read.past;
+    let verdicts = verdicts_read.verdicts;
+    let task_read = task_after(file, after_verdicts);
+    let after_task = task_read.past;
+    let task = task_read.task;
+    let end = end_after(file, after_task);
+    settled(
+        end,
+        Card {
+            roots,
+            bundle,
+            verdicts,
+            task,
+        },
+    )
+}
+
+// The place past the edition, in a file that is not too long.
+fn edition_past(file: &[u8]) -> Past
+    ensures { λ r. ⌜ passed r ≡ passing (cond (leb (length (now (file .entry))) 65535) (editionP (now (file .entry)) 0) (stop 5)) ⌝ }
+{
+    if Card::MOST < file.len() {
+        return Past::Stop(Fault::TooLong);
+    }
+    match count_at(file, 0, 0, 255) {
+        CountAt::Got { count: edition, next } => {
+            if edition == Card::EDITION {
+                return Past::Got(next);
+            }
+            Past::Stop(Fault::UnknownEdition)
+        }
+        CountAt::Stop(fault) => Past::Stop(fault),
+    }
+}
+
+// The file's end, where nothing is left over.
+fn end_after(file: &[u8], past: Past) -> Past
+    ensures { λ r. ⌜ passed r ≡ after (passed past) (λ _ e. cond (ltb e (length (now (file .entry)))) (stop 9) (got tt e)) ⌝ }
+{
+    match past {
+        Past::Got(at) => {
+            if at < file.len() {
+                return Past::Stop(Fault::LeftOver);
+            }
+            Past::Got(at)
+        }
+        Past::Stop(fault) => Past::Stop(fault),
+    }
+}
+
+// With a fault nothing is handed out of what was read before it.
+fn settled(end: Past, card: Card) -> Reading
+    ensures { λ r. ⌜ told r ≡ answer (held end card) ⌝ }
+{
+    match end {
+        Past::Got(_) => Reading {
+            outcome: Outcome::Read,
+            card,
+        },
+        Past::Stop(fault) => Reading {
+            outcome: Outcome::Stop(fault),
+            card: Card::new(),
+        },
+    }
+}
