@@ -1,0 +1,31 @@
+-- A set of places as the bits of a number. Assumes nothing.
+use Prim.Native.Nat.{ℕ, zero, suc, _+_, _/_, _%_, _^_}
+use mathlib.Core.Bool.{Bool, cond, _&&_}
+use lib.Bits.{bitOr, bitAnd, bitXor}
+use lib.Dec.{eqb, ltb}
+
+-- place i stands in a row: bit i of the number, of 64
+unfoldable pub has : ℕ → ℕ → Bool
+has i row = ltb i 64 && eqb (row / 2 ^ i % 2) 1
+
+-- a row with place i, where it is one of the 64
+unfoldable pub joined : ℕ → ℕ → ℕ
+joined row i = cond (ltb i 64) (bitOr row (2 ^ i)) row
+
+-- the places of a row that are not in another
+unfoldable pub left : ℕ → ℕ → ℕ
+left row taken = bitXor row (bitAnd row taken)
+
+-- the first number from i on, of so many, that passes a test; the one past them where none does
+unfoldable pub seek : (ℕ → Bool) → ℕ → ℕ → ℕ
+seek test i zero = i
+seek test i (suc n) = cond (test i) i (seek test (i + 1) n)
+
+unfoldable pub lowest : ℕ → ℕ
+lowest row = seek (λ i. has i row) 0 64
+
+-- the row of those places below n that pass a test
+unfoldable pub rowOf : (ℕ → Bool) → ℕ → ℕ
+rowOf test zero = 0
+rowOf test (suc n) = cond (test n) (joined (rowOf test n) n) (rowOf test n)
+

@@ -1,0 +1,53 @@
+// A row: a set of places as the bits of one number. A row has room for more places than any limit asks, so that one width serves all.
+ghost use mathlib.Core.Path.{_≡_};
+ghost use mathlib.Core.Bool.{not};
+ghost use lib.Dec.{eqb};
+ghost use Rattle.rows.specs.Rows.{has, joined, left, lowest};
+
+// The places that a row has room for.
+pub struct Row {}
+
+impl Row {
+    pub const PLACES: u8 = 64;
+}
+
+// Whether place i stands in a row; no where a row has no such place.
+pub fn has(row: u64, i: u8) -> bool
+    ensures { λ r. ⌜ r ≡ has i row ⌝ }
+{
+    if Row::PLACES <= i {
+        return false;
+    }
+    (row >> i) & 1 != 0
+}
+
+// A row with place i; as it was where a row has no such place.
+pub fn with(row: u64, i: u8) -> u64
+    ensures { λ r. ⌜ r ≡ joined row i ⌝ }
+{
+    if Row::PLACES <= i {
+        return row;
+    }
+    row | (1u64 << i)
+}
+
+// The places of a row that are not in another.
+pub fn without(row: u64, taken: u64) -> u64
+    ensures { λ r. ⌜ r ≡ left row taken ⌝ }
+{
+    row ^ (row & taken)
+}
+
+// The lowest place of a row; as many as a row has room for where it has none.
+pub fn lowest(row: u64) -> u8
+    ensures { λ r. ⌜ r ≡ lowest row ⌝ }
+{
+    let mut i: u8 = 0;
+    while i < Row::PLACES {
+        if has(row, i) {
+            return i;
+        }
+        i += 1;
+    }
+    i
+}
