@@ -1,0 +1,50 @@
+-- The same of records as they are, whether a reader made them or not: a name that can't be read is no one's. Assumes nothing.
+use Prim.Native.Nat.{ℕ, zero, suc, _-_}
+use mathlib.Core.Bool.{Bool, true, _&&_}
+use mathlib.Core.List.{List, [], _∷_, _++_}
+use lib.ListN.{replicate}
+use Rattle.names.specs.Names.{nameP, sameDn}
+use Rattle.names.specs.Answers.{bothSame}
+use Rattle.record.specs.Certificate.{certificateOf}
+use Rattle.record.specs.declared.Record.{Record}
+use Rattle.card.specs.Card.{recordOf, sizeOf, rootSigned, bundleSigned}
+use Rattle.card.specs.declared.roots.Roots.{Roots}
+use Rattle.card.specs.declared.bundle.Bundle.{Bundle}
+use Rattle.card.specs.declared.verdicts.Verdicts.{Verdicts}
+use Rattle.rows.specs.Rows.{rowOf}
+use Rattle.issuing.specs.Issued.{keysFit}
+
+unfoldable pub likelyIssuedAt : List ℕ → Record → Record → Bool
+likelyIssuedAt s issuer subject =
+    bothSame (sameDn true) (nameP s (subject .names .issuer)) (nameP s (issuer .names .subject))
+    && keysFit (certificateOf issuer s) (certificateOf subject s)
+
+-- bundle place i issued bundle place j
+unfoldable pub bundleIssuedAt : List ℕ → Bundle → Verdicts → ℕ → ℕ → Bool
+bundleIssuedAt s b v i j =
+    bundleSigned v s i j && likelyIssuedAt s (recordOf (b .count) (b .records) i) (recordOf (b .count) (b .records) j)
+
+-- root place i issued bundle place j, whose record is at hand
+unfoldable pub rootIssuedAt : List ℕ → Roots → Verdicts → Record → ℕ → ℕ → Bool
+rootIssuedAt s r v subject i j = rootSigned v s i j && likelyIssuedAt s (recordOf (r .count) (r .records) i) subject
+
+-- ---- rows
+
+-- what f gives for the places below n, in their order
+unfoldable pub upTo : (ℕ → ℕ) → ℕ → List ℕ
+upTo f zero = []
+upTo f (suc n) = upTo f n ++ f n ∷ []
+
+-- the same, and 0 for the places from there to most
+unfoldable pub listing : ℕ → ℕ → (ℕ → ℕ) → List ℕ
+listing most n f = upTo f n ++ replicate (most - n) 0
+
+-- a row for each subject: which bundle places issued it
+unfoldable pub bundleRows : List ℕ → Bundle → Verdicts → List ℕ
+bundleRows s b v = listing 16 (sizeOf 16 (b .count)) (λ j. rowOf (λ i. bundleIssuedAt s b v i j) (sizeOf 16 (b .count)))
+
+-- a row for each subject: which roots issued it
+unfoldable pub rootRows : List ℕ → Roots → Bundle → Verdicts → List ℕ
+rootRows s r b v =
+    listing 16 (sizeOf 16 (b .count)) (λ j.
+    rowOf (λ i. rootIssuedAt s r v (recordOf (b .count) (b .records) j) i j) (sizeOf 32 (r .count)))

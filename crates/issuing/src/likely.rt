@@ -1,0 +1,36 @@
+// Likely issued: the names fit and the key identifiers do.
+use fields::part;
+use keys::check_auth_key_id;
+use names::same_names;
+use record::Record;
+ghost use mathlib.Core.Path.{_≡_};
+ghost use Rattle.record.specs.Certificate.{certificateOf};
+ghost use Rattle.issuing.specs.Issued.{keysFit};
+ghost use Rattle.issuing.specs.Records.{likelyIssuedAt};
+
+// Whether the subject's issuer name is the issuer's subject name, normalised, and its authority key id fits.
+pub fn likely_issued(file: &[u8], issuer: Record, subject: Record) -> bool
+    ensures { λ r. ⌜ r ≡ likelyIssuedAt (now (file .entry)) issuer subject ⌝ }
+{
+    if keys_fit(file, issuer, subject) {
+        return same_names(file, subject.names.issuer, issuer.names.subject, true);
+    }
+    false
+}
+
+// Whether what the subject says of its issuer's key fits the issuer.
+fn keys_fit(file: &[u8], issuer: Record, subject: Record) -> bool
+    ensures { λ r. ⌜ r ≡ keysFit (certificateOf issuer (now (file .entry))) (certificateOf subject (now (file .entry))) ⌝ }
+{
+    let authority = subject.extensions.key_ids;
+    let named = issuer.extensions.key_ids;
+    check_auth_key_id(
+        subject.head.flags % 2 == 1,
+        part(file, authority.authority),
+        subject.head.flags / 2 % 2 == 1,
+        part(file, authority.authority_serial),
+        issuer.head.flags / 4 % 2 == 1,
+        part(file, named.subject),
+        part(file, issuer.strings.serial),
+    )
+}

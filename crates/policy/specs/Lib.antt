@@ -1,0 +1,5 @@
+pub mod Rules
+pub mod Policy
+pub mod Records
+pub mod Sound
+pub mod Judging

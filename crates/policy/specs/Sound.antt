@@ -1,0 +1,69 @@
+-- What is judged once per certificate: what the policy asks of it by where it stands in a chain, its path length aside, and its
+-- limit. Assumes nothing.
+use Prim.Native.Nat.{ℕ}
+use mathlib.Core.Bool.{Bool, cond, _&&_}
+use mathlib.Core.List.{List}
+use mathlib.Core.Option.{Option, none, some}
+use Rattle.fields.specs.Fields.{bytesOf}
+use Rattle.record.specs.Certificate.{Certificate, certificateOf}
+use Rattle.record.specs.declared.Record.{Record}
+use Rattle.card.specs.Card.{recordOf, sizeOf}
+use Rattle.card.specs.declared.Card.{Card}
+use Rattle.card.specs.declared.roots.Roots.{Roots}
+use Rattle.card.specs.declared.bundle.Bundle.{Bundle}
+use Rattle.rows.specs.Rows.{rowOf}
+use Rattle.issuing.specs.Records.{listing}
+use Rattle.policy.specs.Rules.{inDate, wellFormed, handled, authority}
+use Rattle.policy.specs.Records.{forServersAt, forHostAt}
+
+-- between leaf and root
+unfoldable pub betweenSound : ℕ → Certificate → Bool
+betweenSound time c = inDate time c && wellFormed c && handled c && authority c
+
+-- as the root
+unfoldable pub topSound : ℕ → Certificate → Bool
+topSound time c = inDate time c && handled c && authority c
+
+-- as the leaf
+unfoldable pub leafSoundAt : List ℕ → ℕ → List ℕ → Record → Bool
+leafSoundAt s time host r =
+    inDate time (certificateOf r s)
+    && wellFormed (certificateOf r s)
+    && handled (certificateOf r s)
+    && forServersAt s (r .extensions .usages)
+    && forHostAt s host (r .extensions .«dns_names»)
+
+-- a path length, or more than a path can have
+abbrev pub orNoLimit : Option ℕ → ℕ
+orNoLimit none = 255
+orNoLimit (some p) = p
+
+unfoldable pub limitOf : Certificate → ℕ
+limitOf c = orNoLimit (c .path-length)
+
+-- ---- of a card's places
+
+abbrev pub placeOf : List ℕ → Bundle → ℕ → Certificate
+placeOf s b i = certificateOf (recordOf (b .count) (b .records) i) s
+
+abbrev pub rootOf : List ℕ → Roots → ℕ → Certificate
+rootOf s r i = certificateOf (recordOf (r .count) (r .records) i) s
+
+unfoldable pub soundPlaces : List ℕ → ℕ → Bundle → ℕ
+soundPlaces s time b = rowOf (λ i. betweenSound time (placeOf s b i)) (sizeOf 16 (b .count))
+
+unfoldable pub placeLimits : List ℕ → Bundle → List ℕ
+placeLimits s b = listing 16 (sizeOf 16 (b .count)) (λ i. limitOf (placeOf s b i))
+
+unfoldable pub soundRoots : List ℕ → ℕ → Roots → ℕ
+soundRoots s time r = rowOf (λ i. topSound time (rootOf s r i)) (sizeOf 32 (r .count))
+
+unfoldable pub rootLimits : List ℕ → Roots → List ℕ
+rootLimits s r = listing 32 (sizeOf 32 (r .count)) (λ i. limitOf (rootOf s r i))
+
+-- the roots that may stand above: none where the leaf is not sound
+unfoldable pub rootsAbove : List ℕ → ℕ → Card → ℕ
+rootsAbove s time c =
+    cond (leafSoundAt s time (bytesOf (c .task .host .name) s) (recordOf (c .bundle .count) (c .bundle .records) 0))
+    (soundRoots s time (c .roots))
+    0

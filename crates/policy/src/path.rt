@@ -1,0 +1,82 @@
+// A path judged: by what was judged of its certificates, and by the roots that issued its last.
+use card::Bundle;
+use card::RootPlace;
+use card::Roots;
+use rows::has;
+ghost use mathlib.Core.Path.{_≡_};
+ghost use lib.ListN.{drop};
+ghost use Rattle.policy.specs.Judging.{stands, allStand, lowestAbove, judgedRoot, topNumber};
+
+// The root above a path, if there is one.
+pub enum Top {
+    Root(RootPlace),
+    None,
+}
+
+// The lowest root by which a path qualifies. The path is its places, the leaf first; issued has for each place the roots that
+// issued it.
+pub fn lowest_root(
+    path: &[u8],
+    issued: &[u64; 16],
+    between: u64,
+    limits: &[usize; 16],
+    above: u64,
+    tops: &[usize; 32],
+) -> Top
+    ensures { λ r. ⌜ topNumber r ≡ judgedRoot (now (issued .entry)) between (now (limits .entry)) above (now (tops .entry)) (now (path .entry)) ⌝ }
+{
+    let n = path.len();
+    if n == 0 {
+        return Top::None;
+    }
+    let last = path[n - 1] as usize;
+    if Bundle::MOST <= last {
+        return Top::None;
+    }
+    if all_stand(path, between, limits) {
+        return lowest_above(issued[last], above, tops, n - 1);
+    }
+    Top::None
+}
+
+// Each place after the first may stand where it does.
+fn all_stand(path: &[u8], between: u64, limits: &[usize; 16]) -> bool
+    ensures { λ r. ⌜ r ≡ allStand between (now (limits .entry)) 0 (drop 1 (now (path .entry))) ⌝ }
+{
+    let mut i: usize = 1;
+    while i < path.len() {
+        let place = path[i];
+        if Bundle::MOST <= place as usize {
+            return false;
+        }
+        if has(between, place) {
+            if i - 1 <= limits[place as usize] {
+                i += 1;
+                continue;
+            }
+        }
+        return false;
+    }
+    true
+}
+
+// The lowest root that issued the last place and may stand above, with n certificates between it and the leaf.
+fn lowest_above(issued: u64, above: u64, limits: &[usize; 32], n: usize) -> Top
+    ensures { λ r. ⌜ topNumber r ≡ lowestAbove issued above (now (limits .entry)) n ⌝ }
+{
+    if issued == 0 {
+        return Top::None;
+    }
+    let mut r: u8 = 0;
+    while (r as usize) < Roots::MOST {
+        if has(issued, r) {
+            if has(above, r) {
+                if n <= limits[r as usize] {
+                    return Top::Root(RootPlace(r));
+                }
+            }
+        }
+        r += 1;
+    }
+    Top::None
+}
