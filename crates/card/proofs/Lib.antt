@@ -1,3 +1,4 @@
 pub mod Chain
 pub mod Sections
 pub mod Standing
+pub mod Signed
