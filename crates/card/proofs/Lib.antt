@@ -2,3 +2,4 @@ pub mod Chain
 pub mod Sections
 pub mod Standing
 pub mod Signed
+pub mod Onward
