@@ -3,3 +3,4 @@ pub mod Sections
 pub mod Standing
 pub mod Signed
 pub mod Onward
+pub mod Two
