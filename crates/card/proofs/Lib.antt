@@ -1,6 +1,9 @@
 pub mod Chain
-pub mod Sections
-pub mod Standing
-pub mod Signed
+pub mod Columns
+pub mod Held
 pub mod Onward
+pub mod Product
+pub mod Sections
+pub mod Signed
+pub mod Standing
 pub mod Two
