@@ -101,6 +101,10 @@ fresh-card = record { roots = fresh-roots; bundle = fresh-bundle; verdicts = fre
 
 -- ---- by place
 
+-- how many records there are: a count, but no more than there is room for
+unfoldable pub sizeOf : ℕ → ℕ → ℕ
+sizeOf most count = cond (leb count most) count most
+
 -- the record at a place; nothing but zeros at a place past the count
 unfoldable pub recordOf : ℕ → List Record → ℕ → Record
 recordOf count records place = cond (ltb place count) (getD records place fresh) fresh

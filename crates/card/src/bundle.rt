@@ -14,7 +14,7 @@ ghost use Rattle.fields.specs.Fields.{stop, after, many};
 ghost use Rattle.fields.specs.Answers.{number, passed};
 ghost use Rattle.record.specs.Fresh.{fresh};
 ghost use Rattle.record.specs.Record.{recordP};
-ghost use Rattle.card.specs.Card.{filledBundle, bundleP, recordOf};
+ghost use Rattle.card.specs.Card.{filledBundle, bundleP, recordOf, sizeOf};
 ghost use Rattle.card.specs.Answers.{held};
 
 pub struct Bundle {
@@ -36,6 +36,16 @@ impl Bundle {
             count: 0,
             records: [none; Bundle::MOST],
         }
+    }
+
+    // How many there are: the count, but no more than there is room for.
+    pub fn size(self) -> u8
+        ensures { λ r. ⌜ r ≡ sizeOf 16 (self .count) ⌝ }
+    {
+        if Bundle::MOST < self.count as usize {
+            return Bundle::MOST as u8;
+        }
+        self.count
     }
 
     // The record of a certificate; the one of nothing but zeros where there is no such place.
