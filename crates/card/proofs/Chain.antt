@@ -80,25 +80,25 @@ module _ (s : List ℕ) where
 
 module _ (s : List ℕ) (begun after-roots after-bundle after-verdicts after-task end : Past)
     (r : Roots) (b : Bundle) (v : Verdicts) (t : Task)
-    where
-  abbrev whole-card : Card
-  whole-card = record { roots = r; bundle = b; verdicts = v; task = t }
+  where
+    abbrev whole-card : Card
+    whole-card = record { roots = r; bundle = b; verdicts = v; task = t }
 
-  pub chained : passed begun ≡ passing (cond (leb (length s) 65535) (editionP s 0) (stop 5))
-      → held after-roots r ≡ after (passed begun) (λ _ e. rootsP s e)
-      → held after-bundle b ≡ after (passed after-roots) (λ _ e. bundleP s e)
-      → held after-verdicts v ≡ after (passed after-bundle) (λ _ e. verdictsP (r .count) (b .count) s e)
-      → held after-task t ≡ after (passed after-verdicts) (λ _ e. taskP s e)
-      → passed end ≡ after (passed after-task) (λ _ e. cond (ltb e (length s)) (stop 9) (got tt e))
-      → held end whole-card ≡ fileP s
-  unfolding fileP whole cardP
-  chained edition roots bundle verdicts task over =
-      held-got whole-card end
-      ∙ ap (λ x. after x (λ _ e. got whole-card e)) over
-      ∙ end-seen whole-card (passed after-task) (length s)
-      ∙ sym (next-section (with-task s r b v) (ended s) after-verdicts after-task t (taskP s) task)
-      ∙ sym (next-section (with-verdicts s r b) (ended s) after-bundle after-verdicts v (verdictsP (r .count) (b .count) s) verdicts)
-      ∙ sym (next-section (with-bundle s r) (ended s) after-roots after-bundle b (bundleP s) bundle)
-      ∙ sym (next-section (with-roots s) (ended s) begun after-roots r (rootsP s) roots)
-      ∙ ap (λ x. after x (λ _ e. after (with-edition s e) (ended s))) edition
-      ∙ sym (first-section (ended s) (leb (length s) 65535) (editionP s 0) (with-edition s))
+    pub chained : passed begun ≡ passing (cond (leb (length s) 65535) (editionP s 0) (stop 5))
+        → held after-roots r ≡ after (passed begun) (λ _ e. rootsP s e)
+        → held after-bundle b ≡ after (passed after-roots) (λ _ e. bundleP s e)
+        → held after-verdicts v ≡ after (passed after-bundle) (λ _ e. verdictsP (r .count) (b .count) s e)
+        → held after-task t ≡ after (passed after-verdicts) (λ _ e. taskP s e)
+        → passed end ≡ after (passed after-task) (λ _ e. cond (ltb e (length s)) (stop 9) (got tt e))
+        → held end whole-card ≡ fileP s
+    unfolding fileP whole cardP
+    chained edition roots bundle verdicts task over =
+        held-got whole-card end
+        ∙ ap (λ x. after x (λ _ e. got whole-card e)) over
+        ∙ end-seen whole-card (passed after-task) (length s)
+        ∙ sym (next-section (with-task s r b v) (ended s) after-verdicts after-task t (taskP s) task)
+        ∙ sym (next-section (with-verdicts s r b) (ended s) after-bundle after-verdicts v (verdictsP (r .count) (b .count) s) verdicts)
+        ∙ sym (next-section (with-bundle s r) (ended s) after-roots after-bundle b (bundleP s) bundle)
+        ∙ sym (next-section (with-roots s) (ended s) begun after-roots r (rootsP s) roots)
+        ∙ ap (λ x. after x (λ _ e. after (with-edition s e) (ended s))) edition
+        ∙ sym (first-section (ended s) (leb (length s) 65535) (editionP s 0) (with-edition s))
