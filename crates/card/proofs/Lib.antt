@@ -1,0 +1,11 @@
+pub mod Chain
+pub mod Columns
+pub mod Held
+pub mod Nothing
+pub mod Onward
+pub mod Product
+pub mod Rows
+pub mod Sections
+pub mod Signed
+pub mod Standing
+pub mod Two

@@ -104,7 +104,10 @@ fn edition_past(file: &[u8]) -> Past
         return Past::Stop(Fault::TooLong);
     }
     match count_at(file, 0, 0, 255) {
-        CountAt::Got { count: edition, next } => {
+        CountAt::Got {
+            count: edition,
+            next,
+        } => {
             if edition == Card::EDITION {
                 return Past::Got(next);
             }

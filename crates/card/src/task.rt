@@ -75,7 +75,11 @@ fn task_at(file: &[u8], at: usize) -> TaskRead
     ensures { λ r. ⌜ held (r .past) (r .task) ≡ taskP (now (file .entry)) at ⌝ }
 {
     match times_at(file, at) {
-        TimesAt::Got { now, budget, next: a } => match purpose_at(file, a) {
+        TimesAt::Got {
+            now,
+            budget,
+            next: a,
+        } => match purpose_at(file, a) {
             Past::Got(b) => match string_at(file, b, Host::LEAST, Host::MOST) {
                 StringAt::Got(name) => TaskRead {
                     past: Past::Got(name.end),
@@ -99,8 +103,14 @@ fn times_at(file: &[u8], at: usize) -> TimesAt
 {
     match count_at(file, at, Task::COUNT, Task::COUNT) {
         CountAt::Got { count: _, next: a } => match u64_at(file, a) {
-            NumberAt::Got { value: now, next: b } => match u64_at(file, b) {
-                NumberAt::Got { value: budget, next } => TimesAt::Got { now, budget, next },
+            NumberAt::Got {
+                value: now,
+                next: b,
+            } => match u64_at(file, b) {
+                NumberAt::Got {
+                    value: budget,
+                    next,
+                } => TimesAt::Got { now, budget, next },
                 NumberAt::Stop(fault) => TimesAt::Stop(fault),
             },
             NumberAt::Stop(fault) => TimesAt::Stop(fault),
@@ -114,7 +124,10 @@ fn purpose_at(file: &[u8], at: usize) -> Past
     ensures { λ r. ⌜ passed r ≡ passing (purposeP (now (file .entry)) at) ⌝ }
 {
     match count_at(file, at, 0, 255) {
-        CountAt::Got { count: purpose, next } => {
+        CountAt::Got {
+            count: purpose,
+            next,
+        } => {
             if purpose == Task::SERVER {
                 return Past::Got(next);
             }

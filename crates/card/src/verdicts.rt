@@ -59,7 +59,12 @@ impl Verdicts {
         if self.bundle <= issuer.0 {
             return false;
         }
-        signed_at(self, file, self.roots as usize + issuer.0 as usize, subject.0 as usize)
+        signed_at(
+            self,
+            file,
+            self.roots as usize + issuer.0 as usize,
+            subject.0 as usize,
+        )
     }
 }
 
@@ -141,7 +146,10 @@ fn verdict_at(file: &[u8], at: usize) -> Past
     ensures { λ r. ⌜ passed r ≡ passing (verdictP (now (file .entry)) at) ⌝ }
 {
     match count_at(file, at, 0, 255) {
-        CountAt::Got { count: verdict, next } => {
+        CountAt::Got {
+            count: verdict,
+            next,
+        } => {
             if Verdicts::YES < verdict {
                 return Past::Stop(Fault::BadValue);
             }

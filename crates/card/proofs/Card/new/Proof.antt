@@ -1,0 +1,29 @@
+use native.Mathlib.Omega.{arith}
+use Rattle.card.proofs.Nothing.{card-fresh}
+use borrow.Author.Needs.{needs}
+use Rattle.card.proofs.Card.new.Statement.{statement}
+use Rattle.card.proofs.Card.new.Tie as tie
+use Rattle.card.proofs.Card.new.Reads as reads
+use Rattle.card.proofs.Card.new.Lts as lts
+use Rattle.card.proofs.bundle.Bundle.new.Reads as bundle-Bundle-new-reads
+use Rattle.card.proofs.roots.Roots.new.Reads as roots-Roots-new-reads
+use Rattle.card.proofs.task.Task.new.Reads as task-Task-new-reads
+use Rattle.card.proofs.verdicts.Verdicts.new.Reads as verdicts-Verdicts-new-reads
+
+new-requires : tie.Need-new-requires
+new-requires c κs = search needs
+
+new-requires-2 : tie.Need-new-requires-2
+new-requires-2 c κs = search needs
+
+new-requires-3 : tie.Need-new-requires-3
+new-requires-3 c κs = search needs
+
+new-requires-4 : tie.Need-new-requires-4
+new-requires-4 c κs = search needs
+
+returns : tie.Need-returns
+returns c = card-fresh _ _ _ _ (c .before .before .before .new .ensures) (c .before .before .new2 .ensures) (c .before .new3 .ensures) (c .new4 .ensures)
+
+pub new-spec : {M : Type 1} → statement M
+new-spec = tie.close (tie.spec new-requires new-requires-2 new-requires-3 new-requires-4 returns)

@@ -1,0 +1,25 @@
+use native.Mathlib.Omega.{arith}
+use borrow.Author.Tests.{le-leb, lt-leb}
+use Rattle.card.specs.Card.{sizeOf}
+use borrow.Author.Needs.{needs}
+use Rattle.card.proofs.bundle.Bundle.size.Statement.{statement}
+use Rattle.card.proofs.bundle.Bundle.size.Tie as tie
+use Rattle.card.proofs.bundle.Bundle.size.Reads as reads
+use Rattle.card.proofs.bundle.Bundle.size.Lts as lts
+
+cast-if1 : tie.Need-cast-if1
+cast-if1 c = search needs
+
+cast-result : tie.Need-cast-result
+cast-result c = search needs
+
+returns : tie.Need-returns
+unfolding sizeOf
+returns c = rw (lt-leb _ _ (c .if1 .taken))
+
+returns-2 : tie.Need-returns-2
+unfolding sizeOf
+returns-2 c = rw (le-leb _ _ (c .if1 .left))
+
+pub size-spec : {M : Type 1} → statement M
+size-spec = tie.close (tie.spec cast-if1 cast-result returns returns-2)

@@ -1,0 +1,19 @@
+use native.Mathlib.Omega.{arith}
+use mathlib.Core.Path.{refl}
+use Rattle.card.specs.Answers.{held}
+use borrow.Author.Needs.{needs}
+use Rattle.card.proofs.bundle.no_bundle.Statement.{statement}
+use Rattle.card.proofs.bundle.no_bundle.Tie as tie
+use Rattle.card.proofs.bundle.no_bundle.Reads as reads
+use Rattle.card.proofs.bundle.no_bundle.Lts as lts
+use Rattle.card.proofs.bundle.Bundle.new.Reads as new-reads
+
+new-requires : tie.Need-new-requires
+new-requires c κs = search needs
+
+returns : tie.Need-returns
+unfolding held
+returns c = refl
+
+pub no-bundle-spec : {M : Type 1} → statement M
+no-bundle-spec = tie.close (tie.spec new-requires returns)

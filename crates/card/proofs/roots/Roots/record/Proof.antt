@@ -1,0 +1,50 @@
+use native.Mathlib.Omega.{arith}
+use mathlib.Core.Path.{_∙_, _≡_}
+use lib.ListN.{length, length-map}
+use Rattle.card.proofs.Rows.{record-none, record-outside, record-there}
+use borrow.Author.Needs.{needs}
+use Rattle.card.proofs.roots.Roots.record.Statement.{statement}
+use Rattle.card.proofs.roots.Roots.record.Tie as tie
+use Rattle.card.proofs.roots.Roots.record.Reads as reads
+use Rattle.card.proofs.roots.Roots.record.Lts as lts
+use Rattle.record.proofs.Record.new.Reads as new-reads
+
+new-requires : tie.Need-new-requires
+new-requires c κs = search needs
+
+returns : tie.Need-returns
+returns c = c .new .ensures ∙ record-none _ _ _ (c .before .if1 .taken)
+
+cast-i : tie.Need-cast-i
+cast-i c = search needs
+
+new-requires-2 : tie.Need-new-requires-2
+new-requires-2 c κs = search needs
+
+returns-2 : tie.Need-returns-2
+returns-2 c =
+    let s = c .before .before .before .before .before in
+    let long : length (s .args .t1 .records) ≡ 32 = simp length-map at (s .good .0 .1 .1 .1 .0 .1 .0 .1) in
+    c .new2 .ensures ∙ record-outside _ _ _ (c .before .before .before .if1 .left) (omega arith)
+
+mul-result : tie.Need-mul-result
+mul-result c = search needs
+
+element-copy-out-result : tie.Need-element-copy-out-result
+element-copy-out-result c = search needs
+
+returns-3 : tie.Need-returns-3
+returns-3 c = record-there _ _ _ (c .before .before .before .if1 .left)
+
+pub record-spec : {M : Type 1} → statement M
+record-spec =
+    tie.close
+    (tie.spec
+    new-requires
+    returns
+    cast-i
+    new-requires-2
+    returns-2
+    mul-result
+    element-copy-out-result
+    returns-3)
