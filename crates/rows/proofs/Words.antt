@@ -5,7 +5,7 @@ use mathlib.Core.Path.{_≡_, refl, sym, ap, _∙_}
 use native.Mathlib.Nat.{zero-add, one-mul, div-one, mod-lt}
 use native.Mathlib.Omega.{arith}
 use lib.Bits.{bitOr, bitAnd, and-mask}
-use lib.Count.{trailingZeros, under}
+use lib.Count.{trailingZeros, under, trailing-le}
 use lib.Dec.{eqb, lit<}
 use lib.Pow.{shr-shr, shl-exact}
 use Rattle.rows.specs.Rows.{has, joined, seek, lowest}
@@ -38,6 +38,9 @@ seek-zeros row i (suc k) h =
     (above i (row / 2 ^ i % 2) (trailingZeros k (row / 2 ^ i / 2)) (seek (λ j. has j row) (i + 1) k)
     (mod-lt (row / 2 ^ i) (lit< tt))
     (seek-zeros row (i + 1) k (omega arith) ∙ ap (λ (x : ℕ). i + 1 + trailingZeros k x) (sym (shr-shr row i 1))))
+
+pub zeros-fit : (row : ℕ) → trailingZeros 64 row < 2 ^ 8
+zeros-fit row = omega (arith, trailing-le 64 row)
 
 pub lowest-zeros : (row : ℕ) → trailingZeros 64 row ≡ lowest row
 unfolding lowest
