@@ -1,6 +1,6 @@
 -- What the places of a row are, for those who keep sets in rows.
 -- One place: `has-at`, `has-past`, `joined-at`, `joined-past` by its number, then `has-none`, `has-joined`, `has-left` for what makes a row.
--- The row of a test: `has-row`; `row-below` and `row-fits` for its size; `row-next`, `row-more`, `row-kept` for a loop's turn; `row-same`.
+-- The row of a test: `has-row`; `row-below` and `row-fits` for its size; `row-none`, `row-next`, `row-more`, `row-kept` for a loop; `row-same`.
 -- The first that passes a test: `seek-least` says in words what it is, `seek-is` that nothing else is that; `seek-same`.
 -- The lowest place: `lowest-least`, `lowest-seeks`; of a test's row, from the test (`lowest-row`) and from the lowest place
 -- (`seek-lowest`, `seek-end`). What the code's words say of a row is in Words. Assumes nothing.
@@ -133,6 +133,10 @@ joined-fits row i h = go (ltb i 64) refl
 -- ---- the row of a test
 
 module _ (test : ℕ → Bool) where
+  pub row-none : rowOf test 0 ≡ 0
+  unfolding rowOf
+  row-none = refl
+
   pub row-next : (i : ℕ) → rowOf test (i + 1) ≡ cond (test i) (joined (rowOf test i) i) (rowOf test i)
   unfolding rowOf
   row-next i = ap (rowOf test) (add-one i)
