@@ -28,4 +28,3 @@ lowest row = seek (λ i. has i row) 0 64
 unfoldable pub rowOf : (ℕ → Bool) → ℕ → ℕ
 rowOf test zero = 0
 rowOf test (suc n) = cond (test n) (joined (rowOf test n) n) (rowOf test n)
-

@@ -1,7 +1,5 @@
 // A row: a set of places as the bits of one number. A row has room for more places than any limit asks, so that one width serves all.
 ghost use mathlib.Core.Path.{_≡_};
-ghost use mathlib.Core.Bool.{not};
-ghost use lib.Dec.{eqb};
 ghost use Rattle.rows.specs.Rows.{has, joined, left, lowest};
 
 // The places that a row has room for.
@@ -42,12 +40,5 @@ pub fn without(row: u64, taken: u64) -> u64
 pub fn lowest(row: u64) -> u8
     ensures { λ r. ⌜ r ≡ lowest row ⌝ }
 {
-    let mut i: u8 = 0;
-    while i < Row::PLACES {
-        if has(row, i) {
-            return i;
-        }
-        i += 1;
-    }
-    i
+    u64::trailing_zeros(row) as u8
 }

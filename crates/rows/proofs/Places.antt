@@ -1,0 +1,314 @@
+-- What the places of a row are, for those who keep sets in rows.
+-- One place: `has-at`, `has-past`, `joined-at`, `joined-past` by its number, then `has-none`, `has-joined`, `has-left` for what makes a row.
+-- The row of a test: `has-row`; `row-below` and `row-fits` for its size; `row-none`, `row-next`, `row-more`, `row-kept` for a loop; `row-same`.
+-- The first that passes a test: `seek-least` says in words what it is, `seek-is` that nothing else is that; `seek-same`.
+-- The lowest place: `lowest-least`, `lowest-seeks`; of a test's row, from the test (`lowest-row`) and from the lowest place
+-- (`seek-lowest`, `seek-end`). What the code's words say of a row is in Words. Assumes nothing.
+use Prim.Native.Nat.{ℕ, zero, suc, _+_, _/_, _%_, _^_, _≤_, _<_}
+use mathlib.Core.Bool.{Bool, true, false, cond, not, _&&_, _||_, false≢true}
+use mathlib.Core.Logic.{⊎-elim}
+use mathlib.Core.Path.{_≡_, refl, sym, ap, _∙_}
+use native.Mathlib.Nat.{pow-zero, pow-suc, div-one, div-eq-of-lt, mul-div-mul-right, mul-mod-left, mod-lt, zero-div, eq-or-lt-of-le}
+use native.Mathlib.Numerals.{add-one}
+use native.Mathlib.Omega.{arith}
+use borrow.Author.Tests.{ltb-true, ltb-false, eqb-true, lt-ltb, le-ltb, eq-eqb}
+use lib.Bits.{bitOr, bitAnd, bitXor, or-shr, or-mod, or-lt, xor-shr, xor-mod, and-shr, and-mod}
+use lib.Dec.{eqb, ltb, lit<, eqb·zero-suc, eqb·suc-zero, eqb·suc-suc}
+use lib.Pow.{pow-lt}
+use Rattle.rows.specs.Rows.{has, joined, left, seek, lowest, rowOf}
+
+-- ---- a number's digits
+
+or-two : (x y : ℕ) → x < 2 → y < 2 → eqb (bitOr x y) 1 ≡ eqb x 1 || eqb y 1
+or-two zero zero h k = refl
+or-two zero (suc zero) h k = refl
+or-two (suc zero) zero h k = refl
+or-two (suc zero) (suc zero) h k = refl
+or-two zero (suc (suc y)) h k = absurd (omega arith)
+or-two (suc zero) (suc (suc y)) h k = absurd (omega arith)
+or-two (suc (suc x)) y h k = absurd (omega arith)
+
+but-two : (x y : ℕ) → x < 2 → y < 2 → eqb (bitXor x (bitAnd x y)) 1 ≡ eqb x 1 && not (eqb y 1)
+but-two zero zero h k = refl
+but-two zero (suc zero) h k = refl
+but-two (suc zero) zero h k = refl
+but-two (suc zero) (suc zero) h k = refl
+but-two zero (suc (suc y)) h k = absurd (omega arith)
+but-two (suc zero) (suc (suc y)) h k = absurd (omega arith)
+but-two (suc (suc x)) y h k = absurd (omega arith)
+
+-- digit i of a number is set
+abbrev digit : ℕ → ℕ → Bool
+digit i x = eqb (x / 2 ^ i % 2) 1
+
+digit-or : (i a b : ℕ) → digit i (bitOr a b) ≡ digit i a || digit i b
+digit-or i a b =
+    ap (λ (x : ℕ). eqb (x % 2) 1) (or-shr a b i)
+    ∙ ap (λ (x : ℕ). eqb x 1) (or-mod (a / 2 ^ i) (b / 2 ^ i) 1)
+    ∙ or-two (a / 2 ^ i % 2) (b / 2 ^ i % 2) (mod-lt (a / 2 ^ i) (lit< tt)) (mod-lt (b / 2 ^ i) (lit< tt))
+
+digit-but : (i a b : ℕ) → digit i (bitXor a (bitAnd a b)) ≡ digit i a && not (digit i b)
+digit-but i a b =
+    let x : ℕ = a / 2 ^ i in
+    let y : ℕ = b / 2 ^ i in
+    ap (λ (z : ℕ). eqb (z % 2) 1) (xor-shr a (bitAnd a b) i ∙ ap (bitXor x) (and-shr a b i))
+    ∙ ap (λ (z : ℕ). eqb z 1) (xor-mod x (bitAnd x y) 1 ∙ ap (bitXor (x % 2)) (and-mod x y 1))
+    ∙ but-two (x % 2) (y % 2) (mod-lt x (lit< tt)) (mod-lt y (lit< tt))
+
+digit-pow : (i p : ℕ) → digit i (2 ^ p) ≡ eqb i p
+digit-pow zero zero = refl
+digit-pow zero (suc p) = rw (pow-suc, pow-zero, div-one, mul-mod-left) (sym (eqb·zero-suc p))
+digit-pow (suc i) zero = rw (pow-zero, div-eq-of-lt (pow-lt {i = 0} {j = suc i} (omega arith)), eqb·suc-zero)
+digit-pow (suc i) (suc p) = rw (pow-suc 2 p, pow-suc 2 i, mul-div-mul-right (2 ^ p) (2 ^ i) (lit< tt), eqb·suc-suc) (digit-pow i p)
+
+-- ---- one place of a row
+
+pub has-at : (i row : ℕ) → i < 64 → has i row ≡ eqb (row / 2 ^ i % 2) 1
+unfolding has
+has-at i row h = rw (lt-ltb i 64 h)
+
+pub has-past : (i row : ℕ) → 64 ≤ i → has i row ≡ false
+unfolding has
+has-past i row h = rw (le-ltb i 64 h)
+
+pub joined-at : (row i : ℕ) → i < 64 → joined row i ≡ bitOr row (2 ^ i)
+unfolding joined
+joined-at row i h = rw (lt-ltb i 64 h)
+
+pub joined-past : (row i : ℕ) → 64 ≤ i → joined row i ≡ row
+unfolding joined
+joined-past row i h = rw (le-ltb i 64 h)
+
+and-no : (t : Bool) → t && false ≡ false
+and-no true = refl
+and-no false = refl
+
+or-no : (t : Bool) → t ≡ t || false
+or-no true = refl
+or-no false = refl
+
+pub has-none : (i : ℕ) → has i 0 ≡ false
+unfolding has
+has-none i = rw zero-div (and-no (ltb i 64))
+
+pub has-joined : (j row i : ℕ) → has j (joined row i) ≡ has j row || (ltb i 64 && eqb j i)
+unfolding has joined
+has-joined j row i = go (ltb i 64) refl
+  where
+    apart : (t s q : Bool) → (q ≡ true → t ≡ true) → t && (s || q) ≡ t && s || q
+    apart true s q h = refl
+    apart false s true h = h refl
+    apart false s false h = refl
+
+    go : (b : Bool) → ltb i 64 ≡ b → ltb j 64 && digit j (cond b (bitOr row (2 ^ i)) row) ≡ ltb j 64 && digit j row || (b && eqb j i)
+    go true e =
+        ap (λ (t : Bool). ltb j 64 && t) (digit-or j row (2 ^ i) ∙ ap (λ (t : Bool). digit j row || t) (digit-pow j i))
+        ∙ apart (ltb j 64) (digit j row) (eqb j i) (λ q. rw (eqb-true j i q) e)
+    go false e = or-no (ltb j 64 && digit j row)
+
+pub has-left : (i row taken : ℕ) → has i (left row taken) ≡ has i row && not (has i taken)
+unfolding has left
+has-left i row taken = go (ltb i 64)
+  where
+    go : (t : Bool) → t && digit i (bitXor row (bitAnd row taken)) ≡ t && digit i row && not (t && digit i taken)
+    go true = digit-but i row taken
+    go false = refl
+
+joined-lt : (k row i : ℕ) → row < 2 ^ k → 2 ^ i < 2 ^ k → joined row i < 2 ^ k
+unfolding joined
+joined-lt k row i h p = go (ltb i 64)
+  where
+    go : (b : Bool) → cond b (bitOr row (2 ^ i)) row < 2 ^ k
+    go true = or-lt k row (2 ^ i) h p
+    go false = h
+
+joined-fits : (row i : ℕ) → row < 2 ^ 64 → joined row i < 2 ^ 64
+unfolding joined
+joined-fits row i h = go (ltb i 64) refl
+  where
+    go : (b : Bool) → ltb i 64 ≡ b → cond b (bitOr row (2 ^ i)) row < 2 ^ 64
+    go true e = or-lt 64 row (2 ^ i) h (pow-lt {i = i} {j = 64} (ltb-true i 64 e))
+    go false e = h
+
+-- ---- the row of a test
+
+module _ (test : ℕ → Bool) where
+  pub row-none : rowOf test 0 ≡ 0
+  unfolding rowOf
+  row-none = refl
+
+  pub row-next : (i : ℕ) → rowOf test (i + 1) ≡ cond (test i) (joined (rowOf test i) i) (rowOf test i)
+  unfolding rowOf
+  row-next i = ap (rowOf test) (add-one i)
+
+  pub row-more : (i : ℕ) → test i ≡ true → rowOf test (i + 1) ≡ joined (rowOf test i) i
+  row-more i e = row-next i ∙ rw e
+
+  pub row-kept : (i : ℕ) → test i ≡ false → rowOf test (i + 1) ≡ rowOf test i
+  row-kept i e = row-next i ∙ rw e
+
+  -- one place more, where it passes and where it does not
+  wider : (n i : ℕ) → test n ≡ true → ltb i n && test i || eqb i n ≡ ltb i (suc n) && test i
+  wider n i e = go (ltb i n) refl (eqb i n) refl
+    where
+      go : (b : Bool) → ltb i n ≡ b → (q : Bool) → eqb i n ≡ q → b && test i || q ≡ ltb i (suc n) && test i
+      go b p true q = let k : i ≡ n = eqb-true i n q in rw (lt-ltb i (suc n) (omega arith), k, e) (all b)
+        where
+          all : (b : Bool) → b && true || true ≡ true
+          all true = refl
+          all false = refl
+      go true p false q = rw (lt-ltb i (suc n) (omega (arith, ltb-true i n p))) (sym (or-no (test i)))
+      go false p false q =
+          let k : ¬ (i ≡ n) = λ k. false≢true (sym q ∙ eq-eqb i n k) in rw (le-ltb i (suc n) (omega (arith, ltb-false i n p)))
+
+  same-width : (n i : ℕ) → test n ≡ false → ltb i n && test i ≡ ltb i (suc n) && test i
+  same-width n i e = go (ltb i n) refl (eqb i n) refl
+    where
+      go : (b : Bool) → ltb i n ≡ b → (q : Bool) → eqb i n ≡ q → b && test i ≡ ltb i (suc n) && test i
+      go b p true q = let k : i ≡ n = eqb-true i n q in rw (k, e) (and-no b ∙ sym (and-no (ltb n (suc n))))
+      go true p false q = rw (lt-ltb i (suc n) (omega (arith, ltb-true i n p)))
+      go false p false q =
+          let k : ¬ (i ≡ n) = λ k. false≢true (sym q ∙ eq-eqb i n k) in rw (le-ltb i (suc n) (omega (arith, ltb-false i n p)))
+
+  pub has-row : (n i : ℕ) → n ≤ 64 → has i (rowOf test n) ≡ ltb i n && test i
+  unfolding rowOf
+  has-row zero i h = has-none i ∙ rw (le-ltb i 0 (omega arith))
+  has-row (suc n) i h = go (test n) refl (has-row n i (omega arith))
+    where
+      go : (b : Bool) → test n ≡ b → has i (rowOf test n) ≡ ltb i n && test i
+          → has i (cond b (joined (rowOf test n) n) (rowOf test n)) ≡ ltb i (suc n) && test i
+      go true e r = has-joined i (rowOf test n) n ∙ rw (r, lt-ltb n 64 (omega arith)) (wider n i e)
+      go false e r = r ∙ same-width n i e
+
+  -- the row's number has no digit past the test's places, and none past the row's
+  pub row-below : (n : ℕ) → rowOf test n < 2 ^ n
+  unfolding rowOf
+  row-below zero = lit< tt
+  row-below (suc n) = go (test n) (row-below n)
+    where
+      go : (b : Bool) → rowOf test n < 2 ^ n → cond b (joined (rowOf test n) n) (rowOf test n) < 2 ^ suc n
+      go true h = joined-lt (suc n) (rowOf test n) n (omega (arith, pow-suc 2 n)) (pow-lt {i = n} {j = suc n} (omega arith))
+      go false h = omega (arith, pow-suc 2 n)
+
+  pub row-fits : (n : ℕ) → rowOf test n < 2 ^ 64
+  unfolding rowOf
+  row-fits zero = lit< tt
+  row-fits (suc n) = go (test n) (row-fits n)
+    where
+      go : (b : Bool) → rowOf test n < 2 ^ 64 → cond b (joined (rowOf test n) n) (rowOf test n) < 2 ^ 64
+      go true h = joined-fits (rowOf test n) n h
+      go false h = h
+
+pub row-same : (f g : ℕ → Bool) (n : ℕ) → ((i : ℕ) → i < n → f i ≡ g i) → rowOf f n ≡ rowOf g n
+unfolding rowOf
+row-same f g zero h = refl
+row-same f g (suc n) h = rw (h n (omega arith), row-same f g n (λ i k. h i (omega arith)))
+
+-- ---- the first that passes a test
+
+-- r is the first number from a on, of n, that passes a test, or the one past them where none does
+pub record Least (test : ℕ → Bool) (a n r : ℕ) : Type 0 where
+  pub from : a ≤ r
+  pub within : r ≤ a + n
+  pub below : (i : ℕ) → a ≤ i → i < r → test i ≡ false
+  pub passes : r < a + n → test r ≡ true
+
+module _ (test : ℕ → Bool) where
+  pub seek-least : (a n : ℕ) → Least test a n (seek test a n)
+  unfolding seek
+  seek-least a zero = record { from = omega arith; within = omega arith; below = λ i h k. absurd (omega arith); passes = λ h. absurd (omega arith) }
+  seek-least a (suc n) = go (test a) refl (seek test (a + 1) n) (seek-least (a + 1) n)
+    where
+      go : (b : Bool) → test a ≡ b → (r : ℕ) → Least test (a + 1) n r → Least test a (suc n) (cond b a r)
+      go true e r l = record { from = omega arith; within = omega arith; below = λ i h k. absurd (omega arith); passes = λ h. e }
+      go false e r l = record { from = omega arith; within = omega arith; below = below; passes = λ h. l .passes (omega arith) }
+        where
+          below : (i : ℕ) → a ≤ i → i < r → test i ≡ false
+          below i h k = ⊎-elim (λ q. ap test (sym q) ∙ e) (λ p. l .below i (omega arith) k) (eq-or-lt-of-le h)
+
+  least-one : (a n r s : ℕ) → Least test a n r → Least test a n s → r ≡ s
+  least-one a n r s l m =
+      let k : ¬ (r < s) = λ k. false≢true (sym (m .below r (l .from) k) ∙ l .passes (omega arith)) in
+      let h : ¬ (s < r) = λ h. false≢true (sym (l .below s (m .from) h) ∙ m .passes (omega arith)) in
+      omega arith
+
+  pub seek-is : (a n r : ℕ) → Least test a n r → r ≡ seek test a n
+  seek-is a n r l = least-one a n r (seek test a n) l (seek-least a n)
+
+pub seek-same : (f g : ℕ → Bool) (a n : ℕ) → ((i : ℕ) → a ≤ i → i < a + n → f i ≡ g i) → seek f a n ≡ seek g a n
+unfolding seek
+seek-same f g a zero h = refl
+seek-same f g a (suc n) h =
+    rw (h a (omega arith) (omega arith), seek-same f g (a + 1) n (λ i k m. h i (omega arith) (omega arith)))
+
+-- ---- the lowest place
+
+pub lowest-least : (row : ℕ) → Least (λ i. has i row) 0 64 (lowest row)
+unfolding lowest
+lowest-least row = seek-least (λ i. has i row) 0 64
+
+pub lowest-seeks : (test : ℕ → Bool) (row : ℕ) → ((i : ℕ) → i < 64 → has i row ≡ test i) → lowest row ≡ seek test 0 64
+unfolding lowest
+lowest-seeks test row h = seek-same (λ i. has i row) test 0 64 (λ i k m. h i (omega arith))
+
+module _ (test : ℕ → Bool) (n : ℕ) (room : n ≤ 64) where
+  -- some place passes
+  pub lowest-found : seek test 0 n < n → lowest (rowOf test n) ≡ seek test 0 n
+  unfolding lowest
+  lowest-found h =
+      let s : ℕ = seek test 0 n in
+      let l : Least test 0 n s = seek-least test 0 n in
+      sym
+      (seek-is (λ i. has i (rowOf test n)) 0 64 s
+      record {
+        from = omega arith;
+        within = omega arith;
+        below = λ i k m. has-row test n i room ∙ rw (l .below i k m) (and-no (ltb i n));
+        passes = λ k. has-row test n s room ∙ rw (lt-ltb s n h) (l .passes (omega arith));
+      })
+
+  -- none does
+  pub lowest-lacks : n ≤ seek test 0 n → lowest (rowOf test n) ≡ 64
+  unfolding lowest
+  lowest-lacks h =
+      sym
+      (seek-is (λ i. has i (rowOf test n)) 0 64 64
+      record {
+        from = omega arith;
+        within = omega arith;
+        below = λ i k m. has-row test n i room ∙ lacks i (ltb i n) refl;
+        passes = λ k. absurd (omega arith);
+      })
+    where
+      lacks : (i : ℕ) (b : Bool) → ltb i n ≡ b → b && test i ≡ false
+      lacks i true e = seek-least test 0 n .below i (omega arith) (omega (arith, ltb-true i n e))
+      lacks i false e = refl
+
+  pub lowest-row : lowest (rowOf test n) ≡ cond (ltb (seek test 0 n) n) (seek test 0 n) 64
+  lowest-row = go (ltb (seek test 0 n) n) refl
+    where
+      go : (b : Bool) → ltb (seek test 0 n) n ≡ b → lowest (rowOf test n) ≡ cond b (seek test 0 n) 64
+      go true e = lowest-found (ltb-true (seek test 0 n) n e)
+      go false e = lowest-lacks (ltb-false (seek test 0 n) n e)
+
+  -- the same from what the code sees
+  pub lowest-in : lowest (rowOf test n) < 64 → lowest (rowOf test n) < n
+  lowest-in h = go (ltb (seek test 0 n) n) refl
+    where
+      go : (b : Bool) → ltb (seek test 0 n) n ≡ b → lowest (rowOf test n) < n
+      go true e = let k : seek test 0 n < n = ltb-true (seek test 0 n) n e in omega (arith, lowest-found k)
+      go false e = absurd (omega (arith, lowest-lacks (ltb-false (seek test 0 n) n e)))
+
+  pub seek-lowest : lowest (rowOf test n) < 64 → seek test 0 n ≡ lowest (rowOf test n)
+  seek-lowest h = go (ltb (seek test 0 n) n) refl
+    where
+      go : (b : Bool) → ltb (seek test 0 n) n ≡ b → seek test 0 n ≡ lowest (rowOf test n)
+      go true e = sym (lowest-found (ltb-true (seek test 0 n) n e))
+      go false e = absurd (omega (arith, lowest-lacks (ltb-false (seek test 0 n) n e)))
+
+  pub seek-end : n ≤ lowest (rowOf test n) → seek test 0 n ≡ n
+  seek-end h = go (ltb (seek test 0 n) n) refl
+    where
+      go : (b : Bool) → ltb (seek test 0 n) n ≡ b → seek test 0 n ≡ n
+      go true e = let k : seek test 0 n < n = ltb-true (seek test 0 n) n e in absurd (omega (arith, lowest-found k))
+      go false e = omega (arith, ltb-false (seek test 0 n) n e, seek-least test 0 n .within)
