@@ -2,10 +2,11 @@
 -- Assumes nothing.
 use Prim.Native.Nat.{ℕ, _+_, _*_}
 use mathlib.Core.Bool.{Bool, _&&_}
-use mathlib.Core.List.{List, map}
+use mathlib.Core.List.{List, [], map}
+use mathlib.Core.Option.{none}
 use lib.Dec.{eqb, ltb}
 use lib.ListN.{length, getD, take}
-use Rattle.fields.specs.Fields.{Parsed, got, stop, after, many, bytesOf}
+use Rattle.fields.specs.Fields.{Parsed, got, after, many, bytesOf}
 use Rattle.record.specs.Certificate.{Certificate, listOf, certificateOf}
 use Rattle.record.specs.declared.Record.{Record}
 use Rattle.card.specs.Card.{verdictP, fileP}
@@ -45,6 +46,32 @@ contentP s = after (fileP s) (λ c e. got (contentOf c s) e)
 pub data Issuer : Type 0 where
   root : ℕ → Issuer
   bundled : ℕ → Issuer
+
+-- what stands at a place that is not there
+abbrev pub nobody : Certificate
+nobody =
+    record {
+      version = 0;
+      flags = 0;
+      not-before = 0;
+      not-after = 0;
+      serial = [];
+      outer = [];
+      inner = [];
+      issuer = [];
+      subject = [];
+      authority-key-id = none;
+      authority-serial = none;
+      subject-key-id = none;
+      path-length = none;
+      usages = [];
+      dns-names = [];
+    }
+
+-- the certificate at a place
+abbrev pub certificateAt : Content → Issuer → Certificate
+certificateAt c (root i) = getD (c .roots) i nobody
+certificateAt c (bundled i) = getD (c .bundle) i nobody
 
 -- an issuer that is there
 abbrev pub there : Content → Issuer → Bool

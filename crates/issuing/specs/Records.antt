@@ -1,8 +1,7 @@
 -- The same of records as they are, whether a reader made them or not: a name that can't be read is no one's. Assumes nothing.
-use Prim.Native.Nat.{ℕ, zero, suc, _-_}
+use Prim.Native.Nat.{ℕ}
 use mathlib.Core.Bool.{Bool, true, _&&_}
-use mathlib.Core.List.{List, [], _∷_, _++_}
-use lib.ListN.{replicate}
+use mathlib.Core.List.{List}
 use Rattle.names.specs.Names.{nameP, sameDn}
 use Rattle.names.specs.Answers.{bothSame}
 use Rattle.record.specs.Certificate.{certificateOf}
@@ -11,7 +10,7 @@ use Rattle.card.specs.Card.{recordOf, sizeOf, rootSigned, bundleSigned}
 use Rattle.card.specs.declared.roots.Roots.{Roots}
 use Rattle.card.specs.declared.bundle.Bundle.{Bundle}
 use Rattle.card.specs.declared.verdicts.Verdicts.{Verdicts}
-use Rattle.rows.specs.Rows.{rowOf}
+use Rattle.rows.specs.Rows.{rowOf, listing}
 use Rattle.issuing.specs.Issued.{keysFit}
 
 unfoldable pub likelyIssuedAt : List ℕ → Record → Record → Bool
@@ -29,15 +28,6 @@ unfoldable pub rootIssuedAt : List ℕ → Roots → Verdicts → Record → ℕ
 rootIssuedAt s r v subject i j = rootSigned v s i j && likelyIssuedAt s (recordOf (r .count) (r .records) i) subject
 
 -- ---- rows
-
--- what f gives for the places below n, in their order
-unfoldable pub upTo : (ℕ → ℕ) → ℕ → List ℕ
-upTo f zero = []
-upTo f (suc n) = upTo f n ++ f n ∷ []
-
--- the same, and 0 for the places from there to most
-unfoldable pub listing : ℕ → ℕ → (ℕ → ℕ) → List ℕ
-listing most n f = upTo f n ++ replicate (most - n) 0
 
 -- a row for each subject: which bundle places issued it
 unfoldable pub bundleRows : List ℕ → Bundle → Verdicts → List ℕ

@@ -16,8 +16,8 @@ pub struct Issuing {
     pub roots: [u64; 16],
 }
 
-// The rows of a card.
-pub fn issuing(file: &[u8], card: Card) -> Issuing
+// Who issued whom in a card, as rows.
+pub fn who_issued(file: &[u8], card: Card) -> Issuing
     ensures { λ r. ⌜ r .bundle ≡ bundleRows (now (file .entry)) (card .bundle) (card .verdicts) ⌝ }
     ensures { λ r. ⌜ r .roots ≡ rootRows (now (file .entry)) (card .roots) (card .bundle) (card .verdicts) ⌝ }
 {

@@ -51,7 +51,14 @@ fn bundle_row(file: &[u8], bundle: Bundle, verdicts: Verdicts, subject: BundlePl
     let mut row: u64 = 0;
     let mut i: u8 = 0;
     while i < n {
-        if bundle_issued(file, verdicts, bundle.record(BundlePlace(i)), BundlePlace(i), of, subject) {
+        if bundle_issued(
+            file,
+            verdicts,
+            bundle.record(BundlePlace(i)),
+            BundlePlace(i),
+            of,
+            subject,
+        ) {
             row = with(row, i);
         }
         i += 1;
@@ -67,7 +74,14 @@ fn root_row(file: &[u8], roots: Roots, verdicts: Verdicts, of: Record, subject: 
     let mut row: u64 = 0;
     let mut i: u8 = 0;
     while i < n {
-        if root_issued(file, verdicts, roots.record(RootPlace(i)), RootPlace(i), of, subject) {
+        if root_issued(
+            file,
+            verdicts,
+            roots.record(RootPlace(i)),
+            RootPlace(i),
+            of,
+            subject,
+        ) {
             row = with(row, i);
         }
         i += 1;
@@ -76,7 +90,14 @@ fn root_row(file: &[u8], roots: Roots, verdicts: Verdicts, of: Record, subject: 
 }
 
 // The verdict is looked up first: where it is no, nothing is compared.
-fn bundle_issued(file: &[u8], verdicts: Verdicts, issuer: Record, i: BundlePlace, subject: Record, j: BundlePlace) -> bool
+fn bundle_issued(
+    file: &[u8],
+    verdicts: Verdicts,
+    issuer: Record,
+    i: BundlePlace,
+    subject: Record,
+    j: BundlePlace,
+) -> bool
     ensures { λ r. ⌜ r ≡ (bundleSigned verdicts (now (file .entry)) (i .0) (j .0) && likelyIssuedAt (now (file .entry)) issuer subject) ⌝ }
 {
     if verdicts.bundle_signed(file, i, j) {
@@ -85,7 +106,14 @@ fn bundle_issued(file: &[u8], verdicts: Verdicts, issuer: Record, i: BundlePlace
     false
 }
 
-fn root_issued(file: &[u8], verdicts: Verdicts, issuer: Record, i: RootPlace, subject: Record, j: BundlePlace) -> bool
+fn root_issued(
+    file: &[u8],
+    verdicts: Verdicts,
+    issuer: Record,
+    i: RootPlace,
+    subject: Record,
+    j: BundlePlace,
+) -> bool
     ensures { λ r. ⌜ r ≡ (rootSigned verdicts (now (file .entry)) (i .0) (j .0) && likelyIssuedAt (now (file .entry)) issuer subject) ⌝ }
 {
     if verdicts.root_signed(file, i, j) {

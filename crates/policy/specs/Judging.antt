@@ -6,9 +6,13 @@ use mathlib.Core.List.{List, [], _∷_}
 use lib.Dec.{leb, ltb}
 use lib.ListN.{length, getD}
 use Rattle.rows.specs.Rows.{has, seek}
-use Rattle.policy.specs.Policy.{lastOf}
 use Rattle.policy.specs.declared.path.Top.{Top}
 use Rattle.policy.specs.declared.path.Top.the-variants as top
+
+-- the last place of a path
+abbrev pub lastOf : ℕ → List ℕ → ℕ
+lastOf p [] = p
+lastOf p (q ∷ l) = lastOf q l
 
 -- a place may stand with n certificates between it and the leaf
 unfoldable pub stands : ℕ → List ℕ → ℕ → ℕ → Bool

@@ -1,12 +1,9 @@
--- The policy on a chain, and which chains qualify (docs/CARD-FILE.md, "Policy"). Assumes nothing.
+-- The policy on a chain (docs/CARD-FILE.md, "Policy"). Assumes nothing.
 use Prim.Native.Nat.{ℕ, _+_}
-use mathlib.Core.Bool.{Bool, true, false, _&&_}
+use mathlib.Core.Bool.{Bool, true, _&&_}
 use mathlib.Core.List.{List, [], _∷_, _++_, map}
-use lib.ListN.{length}
 use Rattle.record.specs.Certificate.{Certificate}
-use Rattle.card.specs.Content.{Content, root, bundled}
-use Rattle.issuing.specs.Issued.{certificateAt, issued}
-use Rattle.rows.specs.Rows.{seek}
+use Rattle.card.specs.Content.{Content, root, bundled, certificateAt}
 use Rattle.policy.specs.Rules.{inDate, wellFormed, handled, authority, allows, forServers, forHost}
 
 -- a chain c0 to ck: the leaf, those between, the root
@@ -56,22 +53,3 @@ chainOf c leaf between r =
       between = map (λ i. certificateAt c (bundled i)) between;
       top = certificateAt c (root r);
     }
-
--- the last place of a path
-abbrev pub lastOf : ℕ → List ℕ → ℕ
-lastOf p [] = p
-lastOf p (q ∷ l) = lastOf q l
-
--- root r issued the last of a path
-abbrev pub reaches : Content → List ℕ → ℕ → Bool
-reaches c [] r = false
-reaches c (p ∷ l) r = issued c (root r) (lastOf p l)
-
--- a path reaches root r, and the chain satisfies the policy
-abbrev pub qualifies : Content → List ℕ → ℕ → Bool
-qualifies c [] r = false
-qualifies c (p ∷ l) r = reaches c (p ∷ l) r && policy (c .now) (c .host) (chainOf c p l r)
-
--- the lowest root by which a path qualifies; as many as there are roots where there is none
-unfoldable pub lowestRoot : Content → List ℕ → ℕ
-lowestRoot c p = seek (qualifies c p) 0 (length (c .roots))

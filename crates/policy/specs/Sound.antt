@@ -11,8 +11,7 @@ use Rattle.card.specs.Card.{recordOf, sizeOf}
 use Rattle.card.specs.declared.Card.{Card}
 use Rattle.card.specs.declared.roots.Roots.{Roots}
 use Rattle.card.specs.declared.bundle.Bundle.{Bundle}
-use Rattle.rows.specs.Rows.{rowOf}
-use Rattle.issuing.specs.Records.{listing}
+use Rattle.rows.specs.Rows.{rowOf, listing}
 use Rattle.policy.specs.Rules.{inDate, wellFormed, handled, authority}
 use Rattle.policy.specs.Records.{forServersAt, forHostAt}
 

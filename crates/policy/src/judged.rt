@@ -17,7 +17,7 @@ ghost use mathlib.Core.List.{List};
 ghost use mathlib.Core.Path.{_≡_};
 ghost use Prim.Native.Nat.{ℕ};
 ghost use Rattle.record.specs.Certificate.{certificateOf};
-ghost use Rattle.policy.specs.Sound.{leafSoundAt, betweenSound, topSound, limitOf, soundPlaces, placeLimits, soundRoots, rootLimits, judgedOf};
+ghost use Rattle.policy.specs.Sound.{leafSoundAt, betweenSound, topSound, limitOf, soundPlaces, placeLimits, soundRoots, rootLimits, rootsAbove};
 
 // The places of the bundle that may stand between leaf and root, and for each how many certificates its path length lets stand
 // between it and the leaf.
@@ -38,7 +38,7 @@ pub struct Judged {
 }
 
 // A card's certificates, each judged once, at a time.
-pub fn judged(file: &[u8], time: u64, card: Card) -> Judged
+pub fn judge(file: &[u8], time: u64, card: Card) -> Judged
     ensures { λ r. ⌜ r .between .sound ≡ soundPlaces (now (file .entry)) time (card .bundle) ⌝ }
     ensures { λ r. ⌜ r .between .limits ≡ placeLimits (now (file .entry)) (card .bundle) ⌝ }
     ensures { λ r. ⌜ r .above .sound ≡ rootsAbove (now (file .entry)) time card ⌝ }
@@ -73,13 +73,13 @@ fn leaf_sound(file: &[u8], time: u64, host: &[u8], leaf: Record) -> bool
 }
 
 // What is asked of a certificate between leaf and root, its path length aside.
-fn between_sound(file: &[u8], time: u64, record: Record) -> bool
-    ensures { λ r. ⌜ r ≡ betweenSound time (certificateOf record (now (file .entry))) ⌝ }
+fn between_sound(file: &[u8], time: u64, cert: Record) -> bool
+    ensures { λ r. ⌜ r ≡ betweenSound time (certificateOf cert (now (file .entry))) ⌝ }
 {
-    if in_date(time, record) {
-        if well_formed(file, record) {
-            if handled(record) {
-                return authority(record);
+    if in_date(time, cert) {
+        if well_formed(file, cert) {
+            if handled(cert) {
+                return authority(cert);
             }
         }
     }
@@ -87,12 +87,12 @@ fn between_sound(file: &[u8], time: u64, record: Record) -> bool
 }
 
 // What is asked of a root, its path length aside.
-fn top_sound(time: u64, record: Record) -> bool
-    ensures { λ r. ⌜ ((s : List ℕ) → r ≡ topSound time (certificateOf record s)) ⌝ }
+fn top_sound(time: u64, cert: Record) -> bool
+    ensures { λ r. ⌜ ((s : List ℕ) → r ≡ topSound time (certificateOf cert s)) ⌝ }
 {
-    if in_date(time, record) {
-        if handled(record) {
-            return authority(record);
+    if in_date(time, cert) {
+        if handled(cert) {
+            return authority(cert);
         }
     }
     false
@@ -102,11 +102,11 @@ fn top_sound(time: u64, record: Record) -> bool
 const NO_LIMIT: usize = 255;
 
 // A path length; no limit where there is none.
-fn limit(record: Record) -> usize
-    ensures { λ r. ⌜ ((s : List ℕ) → r ≡ limitOf (certificateOf record s)) ⌝ }
+fn limit(cert: Record) -> usize
+    ensures { λ r. ⌜ ((s : List ℕ) → r ≡ limitOf (certificateOf cert s)) ⌝ }
 {
-    if record.head.flags / 16 % 2 == 1 {
-        return record.extensions.path_length;
+    if cert.head.flags / 16 % 2 == 1 {
+        return cert.extensions.path_length;
     }
     NO_LIMIT
 }

@@ -1,10 +1,10 @@
 // What is asked of the leaf alone: that it is for servers, and for the host.
+use card::Host;
 use fields::CountAt;
 use fields::StringAt;
 use fields::count_at;
 use fields::part;
 use fields::string_at;
-use card::Host;
 use record::Record;
 use record::Row;
 use text::lower;

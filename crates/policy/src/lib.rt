@@ -8,7 +8,7 @@ mod rules;
 pub use judged::Above;
 pub use judged::Between;
 pub use judged::Judged;
-pub use judged::judged;
+pub use judged::judge;
 pub use leaf::for_host;
 pub use leaf::for_servers;
 pub use path::Top;

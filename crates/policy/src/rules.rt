@@ -9,39 +9,39 @@ ghost use Rattle.record.specs.Certificate.{certificateOf};
 ghost use Rattle.policy.specs.Rules.{inDate, wellFormed, handled, authority, allows};
 
 // Not before and not after, at a time that is given.
-pub fn in_date(time: u64, record: Record) -> bool
-    ensures { λ r. ⌜ ((s : List ℕ) → r ≡ inDate time (certificateOf record s)) ⌝ }
+pub fn in_date(time: u64, cert: Record) -> bool
+    ensures { λ r. ⌜ ((s : List ℕ) → r ≡ inDate time (certificateOf cert s)) ⌝ }
 {
-    if time < record.head.not_before {
+    if time < cert.head.not_before {
         return false;
     }
-    time <= record.head.not_after
+    time <= cert.head.not_after
 }
 
 // X.509 v3, and the algorithm inside the signature is the one outside it.
-pub fn well_formed(file: &[u8], record: Record) -> bool
-    ensures { λ r. ⌜ r ≡ wellFormed (certificateOf record (now (file .entry))) ⌝ }
+pub fn well_formed(file: &[u8], cert: Record) -> bool
+    ensures { λ r. ⌜ r ≡ wellFormed (certificateOf cert (now (file .entry))) ⌝ }
 {
-    if record.head.version != V3 {
+    if cert.head.version != V3 {
         return false;
     }
-    equal(part(file, record.strings.outer), part(file, record.strings.inner))
+    equal(part(file, cert.strings.outer), part(file, cert.strings.inner))
 }
 
 const V3: usize = 2;
 
 // No critical extension was left unhandled.
-pub fn handled(record: Record) -> bool
-    ensures { λ r. ⌜ ((s : List ℕ) → r ≡ handled (certificateOf record s)) ⌝ }
+pub fn handled(cert: Record) -> bool
+    ensures { λ r. ⌜ ((s : List ℕ) → r ≡ handled (certificateOf cert s)) ⌝ }
 {
-    record.head.flags / 128 % 2 != 1
+    cert.head.flags / 128 % 2 != 1
 }
 
 // A CA, which may sign certificates where it says what its key is for.
-pub fn authority(record: Record) -> bool
-    ensures { λ r. ⌜ ((s : List ℕ) → r ≡ authority (certificateOf record s)) ⌝ }
+pub fn authority(cert: Record) -> bool
+    ensures { λ r. ⌜ ((s : List ℕ) → r ≡ authority (certificateOf cert s)) ⌝ }
 {
-    let flags = record.head.flags;
+    let flags = cert.head.flags;
     if flags / 8 % 2 != 1 {
         return false;
     }
@@ -52,11 +52,11 @@ pub fn authority(record: Record) -> bool
 }
 
 // A path length, if there is one, lets so many certificates stand between this one and the leaf.
-pub fn allows(between: usize, record: Record) -> bool
-    ensures { λ r. ⌜ ((s : List ℕ) → r ≡ allows between (certificateOf record s)) ⌝ }
+pub fn allows(between: usize, cert: Record) -> bool
+    ensures { λ r. ⌜ ((s : List ℕ) → r ≡ allows between (certificateOf cert s)) ⌝ }
 {
-    if record.head.flags / 16 % 2 != 1 {
+    if cert.head.flags / 16 % 2 != 1 {
         return true;
     }
-    between <= record.extensions.path_length
+    between <= cert.extensions.path_length
 }

@@ -1,6 +1,8 @@
 -- A set of places as the bits of a number. Assumes nothing.
-use Prim.Native.Nat.{ℕ, zero, suc, _+_, _/_, _%_, _^_}
+use Prim.Native.Nat.{ℕ, zero, suc, _+_, _-_, _/_, _%_, _^_}
 use mathlib.Core.Bool.{Bool, cond, _&&_}
+use mathlib.Core.List.{List, [], _∷_, _++_}
+use lib.ListN.{replicate}
 use lib.Bits.{bitOr, bitAnd, bitXor}
 use lib.Dec.{eqb, ltb}
 
@@ -28,3 +30,14 @@ lowest row = seek (λ i. has i row) 0 64
 unfoldable pub rowOf : (ℕ → Bool) → ℕ → ℕ
 rowOf test zero = 0
 rowOf test (suc n) = cond (test n) (joined (rowOf test n) n) (rowOf test n)
+
+-- ---- a number for each place
+
+-- what f gives for the places below n, in their order
+unfoldable pub upTo : (ℕ → ℕ) → ℕ → List ℕ
+upTo f zero = []
+upTo f (suc n) = upTo f n ++ f n ∷ []
+
+-- the same, and 0 for each place from there to most
+unfoldable pub listing : ℕ → ℕ → (ℕ → ℕ) → List ℕ
+listing most n f = upTo f n ++ replicate (most - n) 0
