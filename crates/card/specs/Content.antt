@@ -5,7 +5,7 @@ use mathlib.Core.Bool.{Bool, _&&_}
 use mathlib.Core.List.{List, map}
 use lib.Dec.{eqb, ltb}
 use lib.ListN.{length, getD, take}
-use Rattle.fields.specs.Fields.{Parsed, got, stop, after, many, bytesOf}
+use Rattle.fields.specs.Fields.{Parsed, got, after, many, bytesOf}
 use Rattle.record.specs.Certificate.{Certificate, listOf, certificateOf}
 use Rattle.record.specs.declared.Record.{Record}
 use Rattle.card.specs.Card.{verdictP, fileP}
