@@ -4,7 +4,7 @@ pub mod Held
 pub mod Nothing
 pub mod Onward
 pub mod Product
-pub mod Rows
+pub mod Records
 pub mod Sections
 pub mod Signed
 pub mod Standing

@@ -69,16 +69,22 @@ pub(crate) struct BundleRead {
     pub bundle: Bundle,
 }
 
-// The bundle where the roots end.
+// The bundle where the roots end. Each arm returns, so that the records are not copied out of the match.
 pub(crate) fn bundle_after(file: &[u8], past: Past) -> BundleRead
     ensures { λ r. ⌜ held (r .past) (r .bundle) ≡ after (passed past) (λ _ at. bundleP (now (file .entry)) at) ⌝ }
 {
     match past {
         Past::Got(at) => match count_at(file, at, Bundle::LEAST, Bundle::MOST) {
-            CountAt::Got { count, next } => bundle_records(file, next, count),
-            CountAt::Stop(fault) => no_bundle(fault),
+            CountAt::Got { count, next } => {
+                return bundle_records(file, next, count);
+            }
+            CountAt::Stop(fault) => {
+                return no_bundle(fault);
+            }
         },
-        Past::Stop(fault) => no_bundle(fault),
+        Past::Stop(fault) => {
+            return no_bundle(fault);
+        }
     }
 }
 

@@ -69,16 +69,22 @@ pub(crate) struct RootsRead {
     pub roots: Roots,
 }
 
-// The roots where the edition ends.
+// The roots where the edition ends. Each arm returns, so that the records are not copied out of the match.
 pub(crate) fn roots_after(file: &[u8], past: Past) -> RootsRead
     ensures { λ r. ⌜ held (r .past) (r .roots) ≡ after (passed past) (λ _ at. rootsP (now (file .entry)) at) ⌝ }
 {
     match past {
         Past::Got(at) => match count_at(file, at, Roots::LEAST, Roots::MOST) {
-            CountAt::Got { count, next } => root_records(file, next, count),
-            CountAt::Stop(fault) => no_roots(fault),
+            CountAt::Got { count, next } => {
+                return root_records(file, next, count);
+            }
+            CountAt::Stop(fault) => {
+                return no_roots(fault);
+            }
         },
-        Past::Stop(fault) => no_roots(fault),
+        Past::Stop(fault) => {
+            return no_roots(fault);
+        }
     }
 }
 

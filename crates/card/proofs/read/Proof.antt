@@ -1,19 +1,10 @@
-use native.Mathlib.Omega.{arith}
+-- `read` hands each section where the last one ended to the next, which makes the whole card. Assumes nothing.
 use mathlib.Core.Path.{ap, _∙_}
 use Rattle.card.specs.Answers.{answer}
 use Rattle.card.proofs.Chain.{chained}
 use borrow.Author.Needs.{needs}
 use Rattle.card.proofs.read.Statement.{statement}
 use Rattle.card.proofs.read.Tie as tie
-use Rattle.card.proofs.read.Reads as reads
-use Rattle.card.proofs.read.Lts as lts
-use Rattle.card.proofs.bundle.bundle_after.Reads as bundle-after-reads
-use Rattle.card.proofs.edition_past.Reads as edition-past-reads
-use Rattle.card.proofs.end_after.Reads as end-after-reads
-use Rattle.card.proofs.roots.roots_after.Reads as roots-after-reads
-use Rattle.card.proofs.settled.Reads as settled-reads
-use Rattle.card.proofs.task.task_after.Reads as task-after-reads
-use Rattle.card.proofs.verdicts.verdicts_after.Reads as verdicts-after-reads
 
 edition-past-requires : tie.Need-edition-past-requires
 edition-past-requires c κs = search needs

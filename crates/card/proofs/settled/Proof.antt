@@ -1,12 +1,8 @@
-use native.Mathlib.Omega.{arith}
-use mathlib.Core.Path.{ap, sym, _∙_}
-use Rattle.card.specs.Answers.{held, answer}
+-- `settled` hands out the card where nothing is left over, and with a fault nothing of what was read before it. Assumes nothing.
+use Rattle.card.specs.Answers.{held}
 use borrow.Author.Needs.{needs}
 use Rattle.card.proofs.settled.Statement.{statement}
 use Rattle.card.proofs.settled.Tie as tie
-use Rattle.card.proofs.settled.Reads as reads
-use Rattle.card.proofs.settled.Lts as lts
-use Rattle.card.proofs.Card.new.Reads as new-reads
 
 enum-told : tie.Need-enum-told
 enum-told c = search needs

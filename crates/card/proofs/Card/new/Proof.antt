@@ -1,14 +1,8 @@
-use native.Mathlib.Omega.{arith}
+-- The sections of `Card::new` are fresh. Assumes nothing.
 use Rattle.card.proofs.Nothing.{card-fresh}
 use borrow.Author.Needs.{needs}
 use Rattle.card.proofs.Card.new.Statement.{statement}
 use Rattle.card.proofs.Card.new.Tie as tie
-use Rattle.card.proofs.Card.new.Reads as reads
-use Rattle.card.proofs.Card.new.Lts as lts
-use Rattle.card.proofs.bundle.Bundle.new.Reads as bundle-Bundle-new-reads
-use Rattle.card.proofs.roots.Roots.new.Reads as roots-Roots-new-reads
-use Rattle.card.proofs.task.Task.new.Reads as task-Task-new-reads
-use Rattle.card.proofs.verdicts.Verdicts.new.Reads as verdicts-Verdicts-new-reads
 
 new-requires : tie.Need-new-requires
 new-requires c κs = search needs

@@ -1,12 +1,9 @@
-use native.Mathlib.Omega.{arith}
+-- `no_bundle` answers the fault. Assumes nothing.
+use borrow.Author.Needs.{needs}
 use mathlib.Core.Path.{refl}
 use Rattle.card.specs.Answers.{held}
-use borrow.Author.Needs.{needs}
 use Rattle.card.proofs.bundle.no_bundle.Statement.{statement}
 use Rattle.card.proofs.bundle.no_bundle.Tie as tie
-use Rattle.card.proofs.bundle.no_bundle.Reads as reads
-use Rattle.card.proofs.bundle.no_bundle.Lts as lts
-use Rattle.card.proofs.bundle.Bundle.new.Reads as new-reads
 
 new-requires : tie.Need-new-requires
 new-requires c κs = search needs

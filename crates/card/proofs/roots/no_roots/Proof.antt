@@ -1,12 +1,9 @@
-use native.Mathlib.Omega.{arith}
+-- `no_roots` answers the fault. Assumes nothing.
+use borrow.Author.Needs.{needs}
 use mathlib.Core.Path.{refl}
 use Rattle.card.specs.Answers.{held}
-use borrow.Author.Needs.{needs}
 use Rattle.card.proofs.roots.no_roots.Statement.{statement}
 use Rattle.card.proofs.roots.no_roots.Tie as tie
-use Rattle.card.proofs.roots.no_roots.Reads as reads
-use Rattle.card.proofs.roots.no_roots.Lts as lts
-use Rattle.card.proofs.roots.Roots.new.Reads as new-reads
 
 new-requires : tie.Need-new-requires
 new-requires c κs = search needs

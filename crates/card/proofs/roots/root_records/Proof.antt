@@ -1,21 +1,17 @@
+-- `root_records` answers so many records in front of places that are as they were at first, or the first fault. The invariant: the first i
+-- places hold the records that were read. Assumes nothing.
 use borrow.Author.Needs.{needs}
 use Prim.Native.Nat.{_-_}
-use Rattle.fields.proofs.Filling.{Filling, filling-starts, filling-goes-on, filling-stops, filling-ends}
-use Rattle.record.specs.Fresh.{fresh}
-use Rattle.record.specs.Record.{recordP}
 use mathlib.Core.Path.{sym, ap, _∙_}
+use Rattle.fields.proofs.Filling.{Filling, filling-starts, filling-goes-on, filling-stops}
+use Rattle.record.specs.Record.{recordP}
+use Rattle.record.specs.Fresh.{fresh}
 use Rattle.record.specs.Answers.{recorded}
-use Rattle.card.specs.Answers.{held}
 use Rattle.card.specs.Card.{filledRoots}
-use Rattle.card.proofs.Rows.{row-filled}
-use native.Mathlib.Omega.{arith}
+use Rattle.card.specs.Answers.{held}
+use Rattle.card.proofs.Records.{row-ends}
 use Rattle.card.proofs.roots.root_records.Statement.{statement}
 use Rattle.card.proofs.roots.root_records.Tie as tie
-use Rattle.card.proofs.roots.root_records.Reads as reads
-use Rattle.card.proofs.roots.root_records.Lts as lts
-use Rattle.card.proofs.roots.no_roots.Reads as no-roots-reads
-use Rattle.record.proofs.Record.new.Reads as new-reads
-use Rattle.record.proofs.record_at.Reads as record-at-reads
 
 abbrev Inv-loop : tie.InvT-loop
 Inv-loop file first n records₀ at₀ i₀ records at i = Filling recordP file 32 fresh first n records at i
@@ -63,7 +59,8 @@ returns : tie.Need-returns Inv-loop μ-loop
 returns c =
     let a = c .before .before .before .before in
     let q = sym (a .record-at .ensures) ∙ ap recorded (c .before .before .fault .given .1) in
-    c .no-roots .ensures ∙ sym (ap filledRoots (filling-stops _ _ _ _ _ _ _ _ _ (a .before .before .loop .inv) _ (a .before .loop-test .taken) q))
+    let stops = filling-stops _ _ _ _ _ _ _ _ _ (a .before .before .loop .inv) _ (a .before .loop-test .taken) q in
+    c .no-roots .ensures ∙ sym (ap filledRoots stops)
 
 cast-t17 : tie.Need-cast-t17 Inv-loop μ-loop
 cast-t17 c = search needs
@@ -71,7 +68,7 @@ cast-t17 c = search needs
 returns-2 : tie.Need-returns-2 Inv-loop μ-loop
 unfolding held
 returns-2 c =
-    row-filled (λ n l. record { count = n; records = l }) _ _ _ _ _ _ (filling-ends _ _ _ _ _ _ _ _ _ (c .before .loop .inv) (c .loop-test .left))
+    row-ends (λ n l. record { count = n; records = l }) _ _ _ _ _ _ _ (c .before .loop .inv) (c .loop-test .left)
 
 pub root-records-spec : {M : Type 1} → statement M
 root-records-spec =

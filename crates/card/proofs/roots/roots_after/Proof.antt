@@ -1,17 +1,12 @@
-use native.Mathlib.Omega.{arith}
+-- `roots_after` answers the roots by their count and their records, or the first fault. Assumes nothing.
+use borrow.Author.Needs.{needs}
 use mathlib.Core.Path.{sym, ap, _∙_}
-use Rattle.fields.specs.Answers.{counted, passed}
 use Rattle.fields.specs.Fields.{countedP}
+use Rattle.fields.specs.Answers.{counted}
 use Rattle.fields.proofs.Counts.{count-read}
 use Rattle.card.specs.Card.{rootsP}
-use borrow.Author.Needs.{needs}
 use Rattle.card.proofs.roots.roots_after.Statement.{statement}
 use Rattle.card.proofs.roots.roots_after.Tie as tie
-use Rattle.card.proofs.roots.roots_after.Reads as reads
-use Rattle.card.proofs.roots.roots_after.Lts as lts
-use Rattle.card.proofs.roots.no_roots.Reads as no-roots-reads
-use Rattle.card.proofs.roots.root_records.Reads as root-records-reads
-use Rattle.fields.proofs.count_at.Reads as count-at-reads
 
 enum-known-past : tie.Need-enum-known-past
 enum-known-past c = search needs
@@ -27,24 +22,18 @@ root-records-requires c κs =
     let n = c .before in
     count-read _ _ _ _ _ _ (sym (n .before .before .count-at .ensures) ∙ ap counted (n .count .given .1)) .few
 
-enum-known-fault : tie.Need-enum-known-fault
-enum-known-fault c = search needs
-
-no-roots-requires : tie.Need-no-roots-requires
-no-roots-requires c κs = search needs
-
-enum-known-past-2 : tie.Need-enum-known-past-2
-enum-known-past-2 c = search needs
-
-no-roots-requires-2 : tie.Need-no-roots-requires-2
-no-roots-requires-2 c κs = search needs
-
 returns : tie.Need-returns
 unfolding rootsP countedP
 returns c =
     let n = c .before .before in
     let a = n .before .before in
     rw (a .before .before .past .given .1, sym (a .count-at .ensures) ∙ ap counted (n .count .given .1)) (c .root-records .ensures)
+
+enum-known-fault : tie.Need-enum-known-fault
+enum-known-fault c = search needs
+
+no-roots-requires : tie.Need-no-roots-requires
+no-roots-requires c κs = search needs
 
 returns-2 : tie.Need-returns-2
 unfolding rootsP countedP
@@ -53,8 +42,13 @@ returns-2 c =
     let a = f .before .before in
     rw (a .before .before .past .given .1, sym (a .count-at .ensures) ∙ ap counted (f .fault .given .1)) (c .no-roots .ensures)
 
+enum-known-past-2 : tie.Need-enum-known-past-2
+enum-known-past-2 c = search needs
+
+no-roots-requires-2 : tie.Need-no-roots-requires-2
+no-roots-requires-2 c κs = search needs
+
 returns-3 : tie.Need-returns-3
-unfolding rootsP countedP
 returns-3 c = rw (c .before .before .past2 .given .1) (c .no-roots2 .ensures)
 
 pub roots-after-spec : {M : Type 1} → statement M
@@ -65,10 +59,10 @@ roots-after-spec =
     count-at-requires
     enum-known-count
     root-records-requires
+    returns
     enum-known-fault
     no-roots-requires
+    returns-2
     enum-known-past-2
     no-roots-requires-2
-    returns
-    returns-2
     returns-3)
