@@ -3,6 +3,7 @@ pub mod Columns
 pub mod Held
 pub mod Nothing
 pub mod Onward
+pub mod Pinned
 pub mod Product
 pub mod Records
 pub mod Sections
