@@ -1,5 +1,6 @@
 pub mod Chain
 pub mod Columns
+pub mod Frauds
 pub mod Held
 pub mod Nothing
 pub mod Onward
