@@ -1,3 +1,4 @@
 pub mod Record
+pub mod Fresh
 pub mod Certificate
 pub mod Answers

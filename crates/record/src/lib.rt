@@ -11,10 +11,13 @@ use extensions::ExtensionsAt;
 pub use extensions::KeyIds;
 use extensions::extensions_at;
 use fields::Fault;
+use fields::Span;
 pub use head::Head;
 use head::HeadAt;
 use head::head_at;
 pub use lists::Row;
+pub use lists::dns_name;
+pub use lists::usage;
 pub use parties::Names;
 use parties::NamesAt;
 use parties::names_at;
@@ -22,6 +25,7 @@ pub use strings::Strings;
 use strings::StringsAt;
 use strings::strings_at;
 ghost use mathlib.Core.Path.{_≡_};
+ghost use Rattle.record.specs.Fresh.{fresh};
 ghost use Rattle.record.specs.Record.{recordP};
 ghost use Rattle.record.specs.Answers.{recorded};
 
@@ -59,6 +63,41 @@ impl Record {
     pub const DNS_NAME_LEAST: usize = 1;
 
     pub const DNS_NAME_MOST: usize = 253;
+
+    // The record that stands where none was read: nothing but zeros.
+    pub fn new() -> Record
+        ensures { λ r. ⌜ r ≡ fresh ⌝ }
+    {
+        let nowhere = Span { start: 0, end: 0 };
+        let none = Row { count: 0, first: 0 };
+        Record {
+            head: Head {
+                version: 0,
+                flags: 0,
+                not_before: 0,
+                not_after: 0,
+            },
+            strings: Strings {
+                serial: nowhere,
+                outer: nowhere,
+                inner: nowhere,
+            },
+            names: Names {
+                issuer: 0,
+                subject: 0,
+            },
+            extensions: Extensions {
+                key_ids: KeyIds {
+                    authority: nowhere,
+                    authority_serial: nowhere,
+                    subject: nowhere,
+                },
+                path_length: 0,
+                usages: none,
+                dns_names: none,
+            },
+        }
+    }
 }
 
 pub enum RecordAt {
