@@ -14,10 +14,10 @@ fresh =
       strings = record { serial = nowhere; outer = nowhere; inner = nowhere };
       names = record { issuer = 0; subject = 0 };
       extensions =
-        record {
-          «key_ids» = record { authority = nowhere; «authority_serial» = nowhere; subject = nowhere };
-          «path_length» = 0;
-          usages = none-listed;
-          «dns_names» = none-listed;
-        };
+          record {
+            «key_ids» = record { authority = nowhere; «authority_serial» = nowhere; subject = nowhere };
+            «path_length» = 0;
+            usages = none-listed;
+            «dns_names» = none-listed;
+          };
     }

@@ -1,0 +1,47 @@
+-- `usage` answers usage i of a list of usages, or a bad count where there are not so many. Assumes nothing.
+use borrow.Author.Needs.{needs}
+use mathlib.Core.Path.{sym, ap, _∙_}
+use Rattle.fields.specs.Answers.{passed}
+use Rattle.record.proofs.Items.{item-none, item-there, item-stops}
+use Rattle.record.proofs.lists.usage.Statement.{statement}
+use Rattle.record.proofs.lists.usage.Tie as tie
+
+returns : tie.Need-returns
+returns c = sym (item-none _ _ _ _ _ (c .if1 .taken))
+
+usages-past-requires : tie.Need-usages-past-requires
+usages-past-requires c κs = search needs
+
+enum-known-at : tie.Need-enum-known-at
+enum-known-at c = search needs
+
+usage-at-requires : tie.Need-usage-at-requires
+usage-at-requires c κs = search needs
+
+enum-known-fault : tie.Need-enum-known-fault
+enum-known-fault c = search needs
+
+returns-2 : tie.Need-returns-2
+returns-2 c =
+    let a = c .before .before in
+    let p = a .before .before in
+    let q = sym (p .usages-past .ensures) ∙ ap passed (a .at .given .1) in
+    c .usage-at .ensures ∙ sym (item-there _ _ _ _ _ _ (p .before .if1 .left) q)
+
+returns-3 : tie.Need-returns-3
+returns-3 c =
+    let p = c .before .before .before in
+    let q = sym (p .usages-past .ensures) ∙ ap passed (c .before .fault .given .1) in
+    sym (item-stops _ _ _ _ _ _ (p .before .if1 .left) q)
+
+pub usage-spec : {M : Type 1} → statement M
+usage-spec =
+    tie.close
+    (tie.spec
+    returns
+    usages-past-requires
+    enum-known-at
+    usage-at-requires
+    enum-known-fault
+    returns-2
+    returns-3)
