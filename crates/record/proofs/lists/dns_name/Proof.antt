@@ -1,6 +1,6 @@
 -- `dns_name` answers DNS name i of a list of DNS names, or a bad count where there are not so many. Assumes nothing.
 use borrow.Author.Needs.{needs}
-use Prim.Native.Nat.{_≤_}
+use Prim.Native.Nat.{_<_, _≤_}
 use mathlib.Core.Path.{sym, ap, _∙_}
 use native.Mathlib.Omega.{arith}
 use Rattle.fields.specs.Answers.{passed}
@@ -10,8 +10,8 @@ use Rattle.record.proofs.lists.dns_name.Tie as tie
 
 returns : tie.Need-returns
 returns c =
-    let a = c .before .before .before .args in
-    let few : a .names .count ≤ a .i = omega (arith, c .if1 .taken) in
+    let s = c .before .before .before .args in
+    let few : s .names .count ≤ s .i = omega (arith, c .if1 .taken) in
     sym (item-none _ _ _ _ _ few)
 
 dns-names-past-requires : tie.Need-dns-names-past-requires
@@ -30,14 +30,18 @@ returns-2 : tie.Need-returns-2
 returns-2 c =
     let a = c .before .before in
     let p = a .before .before in
+    let s = p .before .before .before .before .args in
+    let below : s .i < s .names .count = p .before .if1 .left in
     let q = sym (p .dns-names-past .ensures) ∙ ap passed (a .at .given .1) in
-    c .dns-name-at .ensures ∙ sym (item-there _ _ _ _ _ _ (p .before .if1 .left) q)
+    c .dns-name-at .ensures ∙ sym (item-there _ _ _ _ _ _ below q)
 
 returns-3 : tie.Need-returns-3
 returns-3 c =
     let p = c .before .before .before in
+    let s = p .before .before .before .before .args in
+    let below : s .i < s .names .count = p .before .if1 .left in
     let q = sym (p .dns-names-past .ensures) ∙ ap passed (c .before .fault .given .1) in
-    sym (item-stops _ _ _ _ _ _ (p .before .if1 .left) q)
+    sym (item-stops _ _ _ _ _ _ below q)
 
 pub dns-name-spec : {M : Type 1} → statement M
 dns-name-spec =
