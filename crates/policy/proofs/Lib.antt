@@ -1,1 +1,3 @@
+pub mod Once
 pub mod Paths
+pub mod Places
