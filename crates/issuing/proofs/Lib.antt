@@ -1,0 +1,2 @@
+pub mod Fits
+pub mod Turns
