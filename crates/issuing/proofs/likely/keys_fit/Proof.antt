@@ -1,0 +1,39 @@
+-- `keys_fit` hands over the parts that the two records say, each by its flag. Assumes nothing.
+use Rattle.issuing.proofs.Fits.{keys-fit}
+use borrow.Author.Needs.{needs}
+use Rattle.issuing.proofs.likely.keys_fit.Statement.{statement}
+use Rattle.issuing.proofs.likely.keys_fit.Tie as tie
+
+part-requires : tie.Need-part-requires
+part-requires c κs = search needs
+
+part-requires-2 : tie.Need-part-requires-2
+part-requires-2 c κs = search needs
+
+part-requires-3 : tie.Need-part-requires-3
+part-requires-3 c κs = search needs
+
+part-requires-4 : tie.Need-part-requires-4
+part-requires-4 c κs = search needs
+
+check-auth-key-id-requires : tie.Need-check-auth-key-id-requires
+check-auth-key-id-requires c κs = search needs
+
+returns : tie.Need-returns
+returns c =
+    let d = c .before in
+    let k = d .before in
+    let b = k .before .before in
+    let a = b .before .before in
+    keys-fit _ _ _ _ _ _ _ _ (c .check-auth-key-id .ensures) (a .part .ensures) (b .part2 .ensures) (k .part3 .ensures) (d .part4 .ensures)
+
+pub keys-fit-spec : {M : Type 1} → statement M
+keys-fit-spec =
+    tie.close
+    (tie.spec
+    part-requires
+    part-requires-2
+    part-requires-3
+    part-requires-4
+    check-auth-key-id-requires
+    returns)

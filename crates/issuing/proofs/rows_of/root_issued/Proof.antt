@@ -1,0 +1,21 @@
+-- `root_issued` asks the verdict first, then whether the certificate was likely issued. Assumes nothing.
+use mathlib.Core.Path.{sym, _∙_}
+use borrow.Author.Needs.{needs}
+use Rattle.issuing.proofs.rows_of.root_issued.Statement.{statement}
+use Rattle.issuing.proofs.rows_of.root_issued.Tie as tie
+
+root-signed-requires : tie.Need-root-signed-requires
+root-signed-requires c κs = search needs
+
+likely-issued-requires : tie.Need-likely-issued-requires
+likely-issued-requires c κs = search needs
+
+returns : tie.Need-returns
+returns c = c .likely-issued .ensures ∙ rw (sym (c .before .before .root-signed .ensures) ∙ c .before .if1 .taken)
+
+returns-2 : tie.Need-returns-2
+returns-2 c = rw (sym (c .before .root-signed .ensures) ∙ c .if1 .left)
+
+pub root-issued-spec : {M : Type 1} → statement M
+root-issued-spec =
+    tie.close (tie.spec root-signed-requires likely-issued-requires returns returns-2)
