@@ -46,7 +46,7 @@ and-no true b h = h
 and-no false b h = refl
 
 -- no one issued where the issuer is not there, and none that is not there was issued
-no-issuer : (c : Content) (i : Issuer) (j : ℕ) → there c i ≡ false → issued c i j ≡ false
+pub no-issuer : (c : Content) (i : Issuer) (j : ℕ) → there c i ≡ false → issued c i j ≡ false
 unfolding issued signed
 no-issuer c i j h = and-no (likelyIssued (certificateAt c i) (certificateAt c (bundled j))) _ (rw h)
 
@@ -87,7 +87,7 @@ getD-there [] i d e h = absurd (omega arith)
 getD-there (x ∷ l) zero d e h = refl
 getD-there (x ∷ l) (suc i) d e h = getD-there l i d e (omega arith)
 
-size-is : (most count : ℕ) → count ≤ most → sizeOf most count ≡ count
+pub size-is : (most count : ℕ) → count ≤ most → sizeOf most count ≡ count
 unfolding sizeOf
 size-is most count h = rw (le-leb count most h)
 

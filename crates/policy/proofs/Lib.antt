@@ -6,4 +6,6 @@ pub mod Lowering
 pub mod Once
 pub mod Paths
 pub mod Places
+pub mod Qualified
+pub mod Seats
 pub mod Things
