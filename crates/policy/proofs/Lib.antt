@@ -1,5 +1,6 @@
 pub mod AnyOf
 pub mod Chains
+pub mod Frauds
 pub mod Hosts
 pub mod LeafRead
 pub mod Lowering
