@@ -19,7 +19,7 @@ ghost use Rattle.card.specs.Answers.{held};
 
 pub struct Bundle {
     pub count: u8,
-    pub records: [Record; 16],
+    pub records: [Record; Bundle::MOST],
 }
 
 impl Bundle {

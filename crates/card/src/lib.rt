@@ -132,18 +132,22 @@ fn end_after(file: &[u8], past: Past) -> Past
     }
 }
 
-// With a fault nothing is handed out of what was read before it.
+// With a fault nothing is handed out of what was read before it. Each arm returns, so that the card is not copied out of the match.
 fn settled(end: Past, card: Card) -> Reading
     ensures { λ r. ⌜ told r ≡ answer (held end card) ⌝ }
 {
     match end {
-        Past::Got(_) => Reading {
-            outcome: Outcome::Read,
-            card,
-        },
-        Past::Stop(fault) => Reading {
-            outcome: Outcome::Stop(fault),
-            card: Card::new(),
-        },
+        Past::Got(_) => {
+            return Reading {
+                outcome: Outcome::Read,
+                card,
+            };
+        }
+        Past::Stop(fault) => {
+            return Reading {
+                outcome: Outcome::Stop(fault),
+                card: Card::new(),
+            };
+        }
     }
 }

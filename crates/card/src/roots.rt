@@ -19,7 +19,7 @@ ghost use Rattle.card.specs.Answers.{held};
 
 pub struct Roots {
     pub count: u8,
-    pub records: [Record; 32],
+    pub records: [Record; Roots::MOST],
 }
 
 impl Roots {

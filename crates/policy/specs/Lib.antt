@@ -3,3 +3,4 @@ pub mod Policy
 pub mod Records
 pub mod Sound
 pub mod Judging
+pub mod Qualifies

@@ -46,7 +46,12 @@ pub fn judge(file: &[u8], time: u64, card: Card) -> Judged
 {
     let between = places_between(file, time, card.bundle);
     let above = roots_above(time, card.roots);
-    if leaf_sound(file, time, part(file, card.task.host.name), card.bundle.record(BundlePlace(0))) {
+    if leaf_sound(
+        file,
+        time,
+        part(file, card.task.host.name),
+        card.bundle.record(BundlePlace(0)),
+    ) {
         return Judged { between, above };
     }
     let limits = above.limits;

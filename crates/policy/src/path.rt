@@ -5,7 +5,7 @@ use card::Roots;
 use rows::has;
 ghost use mathlib.Core.Path.{_≡_};
 ghost use lib.ListN.{drop};
-ghost use Rattle.policy.specs.Judging.{stands, allStand, lowestAbove, judgedRoot, topNumber};
+ghost use Rattle.policy.specs.Judging.{allStand, lowestAbove, judgedRoot, topNumber};
 
 // The root above a path, if there is one.
 pub enum Top {

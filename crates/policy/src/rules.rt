@@ -25,7 +25,10 @@ pub fn well_formed(file: &[u8], cert: Record) -> bool
     if cert.head.version != V3 {
         return false;
     }
-    equal(part(file, cert.strings.outer), part(file, cert.strings.inner))
+    equal(
+        part(file, cert.strings.outer),
+        part(file, cert.strings.inner),
+    )
 }
 
 const V3: usize = 2;

@@ -1,6 +1,8 @@
 pub mod After
 pub mod Ends
 pub mod Flags
+pub mod Frauds
+pub mod Items
 pub mod Meaning
 pub mod Pinned
 pub mod Rows

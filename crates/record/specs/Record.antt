@@ -3,7 +3,7 @@
 use Prim.Native.Nat.{ℕ, _/_, _%_}
 use mathlib.Core.Bool.{Bool, cond, _&&_, _||_, not}
 use mathlib.Core.List.{List}
-use lib.Dec.{eqb, leb}
+use lib.Dec.{eqb, leb, ltb}
 use Rattle.fields.specs.Fields.{Parsed, got, stop, after, countP, spanP, stringP, bigP, many}
 use Rattle.fields.specs.declared.string.Span.{Span}
 use Rattle.names.specs.Names.{nameP}
@@ -100,6 +100,10 @@ rowP most p s at =
     after (countP 0 most s at) (λ n e.
     after (many p n s e) (λ _ f.
     got (record { count = n; first = e }) f))
+
+-- thing i of a list, by q, where those before it are read by p; a bad count where the list is shorter
+unfoldable pub itemP : {A B : Type 0} → (List ℕ → ℕ → Parsed A) → (List ℕ → ℕ → Parsed B) → Row → ℕ → List ℕ → Parsed B
+itemP p q row i s = cond (ltb i (row .count)) (after (many p i s (row .first)) (λ _ e. q s e)) (stop 7)
 
 -- key ids, path length, usages 0..8, DNS names 0..32
 unfoldable pub extensionsP : ℕ → List ℕ → ℕ → Parsed Extensions

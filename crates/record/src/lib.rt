@@ -16,6 +16,8 @@ pub use head::Head;
 use head::HeadAt;
 use head::head_at;
 pub use lists::Row;
+pub use lists::dns_name;
+pub use lists::usage;
 pub use parties::Names;
 use parties::NamesAt;
 use parties::names_at;

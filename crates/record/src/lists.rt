@@ -7,9 +7,9 @@ use fields::StringAt;
 use fields::count_at;
 use fields::string_at;
 ghost use mathlib.Core.Path.{_≡_};
-ghost use Rattle.fields.specs.Fields.{many};
-ghost use Rattle.fields.specs.Answers.{passed, passing};
-ghost use Rattle.record.specs.Record.{usageP, dnsNameP, rowP};
+ghost use Rattle.fields.specs.Fields.{many, spanP};
+ghost use Rattle.fields.specs.Answers.{counted, passed, passing, spanned};
+ghost use Rattle.record.specs.Record.{usageP, dnsNameP, rowP, itemP};
 ghost use Rattle.record.specs.Answers.{listed};
 
 pub struct Row {
@@ -52,6 +52,32 @@ pub(crate) fn dns_names_at(file: &[u8], at: usize) -> RowAt
     }
 }
 
+// Usage i of a record's usages.
+pub fn usage(file: &[u8], usages: Row, i: usize) -> CountAt
+    ensures { λ r. ⌜ counted r ≡ itemP usageP usageP usages i (now (file .entry)) ⌝ }
+{
+    if usages.count <= i {
+        return CountAt::Stop(Fault::BadCount);
+    }
+    match usages_past(file, usages.first, i) {
+        Past::Got(at) => usage_at(file, at),
+        Past::Stop(fault) => CountAt::Stop(fault),
+    }
+}
+
+// DNS name i of a record's DNS names.
+pub fn dns_name(file: &[u8], names: Row, i: usize) -> StringAt
+    ensures { λ r. ⌜ spanned r ≡ itemP dnsNameP (spanP 1 253) names i (now (file .entry)) ⌝ }
+{
+    if names.count <= i {
+        return StringAt::Stop(Fault::BadCount);
+    }
+    match dns_names_past(file, names.first, i) {
+        Past::Got(at) => dns_name_at(file, at),
+        Past::Stop(fault) => StringAt::Stop(fault),
+    }
+}
+
 // The place past n usages.
 fn usages_past(file: &[u8], first: usize, n: usize) -> Past
     ensures { λ r. ⌜ passed r ≡ passing (many usageP n (now (file .entry)) first) ⌝ }
@@ -60,11 +86,11 @@ fn usages_past(file: &[u8], first: usize, n: usize) -> Past
     let mut left = n;
     while 0 < left {
         match usage_at(file, at) {
-            Past::Got(next) => {
+            CountAt::Got { count: _, next } => {
                 at = next;
                 left -= 1;
             }
-            Past::Stop(fault) => {
+            CountAt::Stop(fault) => {
                 return Past::Stop(fault);
             }
         }
@@ -80,11 +106,11 @@ fn dns_names_past(file: &[u8], first: usize, n: usize) -> Past
     let mut left = n;
     while 0 < left {
         match dns_name_at(file, at) {
-            Past::Got(next) => {
-                at = next;
+            StringAt::Got(name) => {
+                at = name.end;
                 left -= 1;
             }
-            Past::Stop(fault) => {
+            StringAt::Stop(fault) => {
                 return Past::Stop(fault);
             }
         }
@@ -93,25 +119,22 @@ fn dns_names_past(file: &[u8], first: usize, n: usize) -> Past
 }
 
 // A usage is a bad value above the last, judged when it is read.
-fn usage_at(file: &[u8], at: usize) -> Past
-    ensures { λ r. ⌜ passed r ≡ passing (usageP (now (file .entry)) at) ⌝ }
+fn usage_at(file: &[u8], at: usize) -> CountAt
+    ensures { λ r. ⌜ counted r ≡ usageP (now (file .entry)) at ⌝ }
 {
     match count_at(file, at, 0, 255) {
         CountAt::Got { count: usage, next } => {
             if Record::USAGE_MOST < usage {
-                return Past::Stop(Fault::BadValue);
+                return CountAt::Stop(Fault::BadValue);
             }
-            Past::Got(next)
+            CountAt::Got { count: usage, next }
         }
-        CountAt::Stop(fault) => Past::Stop(fault),
+        CountAt::Stop(fault) => CountAt::Stop(fault),
     }
 }
 
-fn dns_name_at(file: &[u8], at: usize) -> Past
-    ensures { λ r. ⌜ passed r ≡ passing (dnsNameP (now (file .entry)) at) ⌝ }
+fn dns_name_at(file: &[u8], at: usize) -> StringAt
+    ensures { λ r. ⌜ spanned r ≡ spanP 1 253 (now (file .entry)) at ⌝ }
 {
-    match string_at(file, at, Record::DNS_NAME_LEAST, Record::DNS_NAME_MOST) {
-        StringAt::Got(name) => Past::Got(name.end),
-        StringAt::Stop(fault) => Past::Stop(fault),
-    }
+    string_at(file, at, Record::DNS_NAME_LEAST, Record::DNS_NAME_MOST)
 }

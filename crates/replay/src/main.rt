@@ -28,5 +28,6 @@ fn replay(i: usize) {
     let n = io::read_full(fd, &mut file);
     libc::close(fd);
     let reading = read(&file[..n]);
-    say::outcome(reading.outcome);
+    let outcome = reading.outcome;
+    say::outcome(outcome);
 }

@@ -22,4 +22,4 @@ unfolding held
 returns-2 c = rw (c .before .before .end .given .1, c .new .ensures)
 
 pub settled-spec : {M : Type 1} → statement M
-settled-spec = tie.close (tie.spec enum-told enum-known-end new-requires returns returns-2)
+settled-spec = tie.close (tie.spec enum-told returns enum-known-end new-requires returns-2)

@@ -1,7 +1,8 @@
 -- `dns_names_past` ends where so many DNS names end. The invariant: what is left to pass ends where all of them do. Assumes nothing.
 use borrow.Author.Needs.{needs}
 use mathlib.Core.Path.{refl, sym, ap, _∙_}
-use Rattle.fields.specs.Answers.{passed}
+use Rattle.fields.specs.Answers.{passing, spanned}
+use Rattle.fields.proofs.Strings.{string-got, string-stops}
 use Rattle.record.specs.Record.{dnsNameP}
 use Rattle.record.proofs.Rows.{Left, row-next, row-stops, row-ends}
 use Rattle.record.proofs.lists.dns_names_past.Statement.{statement}
@@ -19,8 +20,8 @@ loop-holds c = refl
 dns-name-at-requires : tie.Need-dns-name-at-requires Inv-loop μ-loop
 dns-name-at-requires c κs = search needs
 
-enum-known-next : tie.Need-enum-known-next Inv-loop μ-loop
-enum-known-next c = search needs
+enum-known-name : tie.Need-enum-known-name Inv-loop μ-loop
+enum-known-name c = search needs
 
 sub-left : tie.Need-sub-left Inv-loop μ-loop
 sub-left c = search needs
@@ -29,19 +30,21 @@ loop-less : tie.Need-loop-less Inv-loop μ-loop
 loop-less c = search needs
 
 loop-again : tie.Need-loop-again Inv-loop μ-loop
+unfolding dnsNameP
 loop-again c =
     let a = c .before .before .before in
-    let q = sym (a .dns-name-at .ensures) ∙ ap passed (c .before .next .given .1) in
-    row-next _ _ _ _ _ _ _ (a .before .before .loop .inv) (a .before .loop-test .taken) q
+    let q = string-got 1 253 _ _ _ _ (sym (a .dns-name-at .ensures) ∙ ap spanned (c .before .name .given .1)) in
+    row-next _ _ _ _ _ _ _ (a .before .before .loop .inv) (a .before .loop-test .taken) (ap passing q)
 
 enum-known-fault : tie.Need-enum-known-fault Inv-loop μ-loop
 enum-known-fault c = search needs
 
 returns : tie.Need-returns Inv-loop μ-loop
+unfolding dnsNameP
 returns c =
     let a = c .before .before .before in
-    let q = sym (a .dns-name-at .ensures) ∙ ap passed (c .before .fault .given .1) in
-    row-stops _ _ _ _ _ _ _ (a .before .before .loop .inv) (a .before .loop-test .taken) q
+    let q = string-stops 1 253 _ _ _ (sym (a .dns-name-at .ensures) ∙ ap spanned (c .before .fault .given .1)) in
+    row-stops _ _ _ _ _ _ _ (a .before .before .loop .inv) (a .before .loop-test .taken) (ap passing q)
 
 returns-2 : tie.Need-returns-2 Inv-loop μ-loop
 returns-2 c = row-ends _ _ _ _ _ _ (c .before .loop .inv) (c .loop-test .left)
@@ -54,7 +57,7 @@ dns-names-past-spec =
     μ-loop
     loop-holds
     dns-name-at-requires
-    enum-known-next
+    enum-known-name
     sub-left
     loop-less
     loop-again

@@ -1,7 +1,7 @@
 -- `usages_past` ends where so many usages end. The invariant: what is left to pass ends where all of them do. Assumes nothing.
 use borrow.Author.Needs.{needs}
 use mathlib.Core.Path.{refl, sym, ap, _∙_}
-use Rattle.fields.specs.Answers.{passed}
+use Rattle.fields.specs.Answers.{counted, passing}
 use Rattle.record.specs.Record.{usageP}
 use Rattle.record.proofs.Rows.{Left, row-next, row-stops, row-ends}
 use Rattle.record.proofs.lists.usages_past.Statement.{statement}
@@ -31,7 +31,7 @@ loop-less c = search needs
 loop-again : tie.Need-loop-again Inv-loop μ-loop
 loop-again c =
     let a = c .before .before .before in
-    let q = sym (a .usage-at .ensures) ∙ ap passed (c .before .next .given .1) in
+    let q = ap passing (sym (a .usage-at .ensures) ∙ ap counted (c .before .next .given .1)) in
     row-next _ _ _ _ _ _ _ (a .before .before .loop .inv) (a .before .loop-test .taken) q
 
 enum-known-fault : tie.Need-enum-known-fault Inv-loop μ-loop
@@ -40,7 +40,7 @@ enum-known-fault c = search needs
 returns : tie.Need-returns Inv-loop μ-loop
 returns c =
     let a = c .before .before .before in
-    let q = sym (a .usage-at .ensures) ∙ ap passed (c .before .fault .given .1) in
+    let q = ap passing (sym (a .usage-at .ensures) ∙ ap counted (c .before .fault .given .1)) in
     row-stops _ _ _ _ _ _ _ (a .before .before .loop .inv) (a .before .loop-test .taken) q
 
 returns-2 : tie.Need-returns-2 Inv-loop μ-loop

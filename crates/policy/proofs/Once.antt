@@ -1,0 +1,109 @@
+-- What the tests of one certificate come to: its limit (`limit-given`, `no-limit`), then what is asked of it between leaf and root, as the
+-- root and as the leaf, by the first test that fails, and the roots above by the leaf. Assumes nothing.
+use Prim.Native.Nat.{ℕ, _/_, _%_}
+use mathlib.Core.Bool.{Bool, true, false}
+use mathlib.Core.List.{List}
+use mathlib.Core.Path.{_≡_, sym}
+use borrow.Author.Tests.{eq-eqb, ne-eqb}
+use Rattle.fields.specs.Fields.{bytesOf}
+use Rattle.record.specs.Record.{flag}
+use Rattle.record.specs.Certificate.{Certificate, certificateOf}
+use Rattle.record.specs.declared.Record.{Record}
+use Rattle.card.specs.Card.{recordOf}
+use Rattle.card.specs.declared.Card.{Card}
+use Rattle.policy.specs.Rules.{inDate, wellFormed, handled, authority}
+use Rattle.policy.specs.Records.{forServersAt, forHostAt}
+use Rattle.policy.specs.Sound.{betweenSound, topSound, leafSoundAt, limitOf, soundRoots, rootsAbove}
+
+-- ---- a path length
+
+module _ (r : Record) (s : List ℕ) where
+  pub limit-given : r .head .flags / 16 % 2 ≡ 1 → limitOf (certificateOf r s) ≡ r .extensions .«path_length»
+  unfolding limitOf certificateOf flag
+  limit-given h = rw (eq-eqb (r .head .flags / 16 % 2) 1 h)
+
+  pub no-limit : (r .head .flags / 16 % 2 ≡ 1 → ⊥) → limitOf (certificateOf r s) ≡ 255
+  unfolding limitOf certificateOf flag
+  no-limit h = rw (ne-eqb (r .head .flags / 16 % 2) 1 h)
+
+-- ---- by where it stands
+
+module _ (time : ℕ) (c : Certificate) where
+  pub top-undated : inDate time c ≡ false → topSound time c ≡ false
+  unfolding topSound
+  top-undated e = rw e
+
+  pub between-undated : inDate time c ≡ false → betweenSound time c ≡ false
+  unfolding betweenSound
+  between-undated e = rw e
+
+  module _ (dated : inDate time c ≡ true) where
+    pub top-unhandled : handled c ≡ false → topSound time c ≡ false
+    unfolding topSound
+    top-unhandled e = rw (dated, e)
+
+    pub top-asked : handled c ≡ true → topSound time c ≡ authority c
+    unfolding topSound
+    top-asked e = rw (dated, e)
+
+    pub between-unformed : wellFormed c ≡ false → betweenSound time c ≡ false
+    unfolding betweenSound
+    between-unformed e = rw (dated, e)
+
+    module _ (formed : wellFormed c ≡ true) where
+      pub between-unhandled : handled c ≡ false → betweenSound time c ≡ false
+      unfolding betweenSound
+      between-unhandled e = rw (dated, formed, e)
+
+      pub between-asked : handled c ≡ true → betweenSound time c ≡ authority c
+      unfolding betweenSound
+      between-asked e = rw (dated, formed, e)
+
+module _ (s : List ℕ) (time : ℕ) (host : List ℕ) (r : Record) where
+  pub leaf-undated : inDate time (certificateOf r s) ≡ false → leafSoundAt s time host r ≡ false
+  unfolding leafSoundAt
+  leaf-undated e = rw e
+
+  module _ (dated : inDate time (certificateOf r s) ≡ true) where
+    pub leaf-unformed : wellFormed (certificateOf r s) ≡ false → leafSoundAt s time host r ≡ false
+    unfolding leafSoundAt
+    leaf-unformed e = rw (dated, e)
+
+    module _ (formed : wellFormed (certificateOf r s) ≡ true) where
+      pub leaf-unhandled : handled (certificateOf r s) ≡ false → leafSoundAt s time host r ≡ false
+      unfolding leafSoundAt
+      leaf-unhandled e = rw (dated, formed, e)
+
+      module _ (told : handled (certificateOf r s) ≡ true) where
+        pub leaf-unserving : forServersAt s (r .extensions .usages) ≡ false → leafSoundAt s time host r ≡ false
+        unfolding leafSoundAt
+        leaf-unserving e = rw (dated, formed, told, e)
+
+        pub leaf-asked : forServersAt s (r .extensions .usages) ≡ true → leafSoundAt s time host r ≡ forHostAt s host (r .extensions .«dns_names»)
+        unfolding leafSoundAt
+        leaf-asked e = rw (dated, formed, told, e)
+
+-- ---- the roots above
+
+-- by the answer on a host and a record that are the task's host and the record at place 0
+module _
+    (s : List ℕ)
+    (time : ℕ)
+    (c : Card)
+    (answer : Bool)
+    (host : List ℕ)
+    (leaf : Record)
+    (told : answer ≡ leafSoundAt s time host leaf)
+    (asked : host ≡ bytesOf (c .task .host .name) s)
+    (first : leaf ≡ recordOf (c .bundle .count) (c .bundle .records) 0)
+  where
+    leaf-told : leafSoundAt s time (bytesOf (c .task .host .name) s) (recordOf (c .bundle .count) (c .bundle .records) 0) ≡ answer
+    leaf-told = rw (← asked, ← first) (sym told)
+
+    pub above-sound : answer ≡ true → rootsAbove s time c ≡ soundRoots s time (c .roots)
+    unfolding rootsAbove
+    above-sound e = rw (leaf-told, e)
+
+    pub above-unsound : answer ≡ false → rootsAbove s time c ≡ 0
+    unfolding rootsAbove
+    above-unsound e = rw (leaf-told, e)

@@ -1,0 +1,98 @@
+-- `places_between` answers the places that may stand between leaf and root, and each place's limit. The invariant: the places below i are
+-- judged. Assumes nothing.
+use borrow.Author.Needs.{needs}
+use native.Mathlib.Omega.{arith}
+use Prim.Native.Nat.{_-_, _<_, _≤_}
+use mathlib.Core.Logic.{⊎-elim}
+use mathlib.Core.Path.{sym, ap, _∙_}
+use Rattle.record.specs.Certificate.{certificateOf}
+use Rattle.policy.specs.Sound.{betweenSound, limitOf, placeOf, soundPlaces, placeLimits}
+use Rattle.policy.proofs.Places.{Judging, size-within, judging-starts, judging-joins, judging-passes, judging-ends}
+use Rattle.policy.proofs.judged.places_between.Statement.{statement}
+use Rattle.policy.proofs.judged.places_between.Tie as tie
+
+abbrev Inv-loop : tie.InvT-loop
+Inv-loop file time bundle n sound₀ limits₀ i₀ sound limits i =
+    (n ≤ 16) × (i ≤ n) × Judging (λ j. betweenSound time (placeOf file bundle j)) (λ j. limitOf (placeOf file bundle j)) 16 sound limits i
+
+abbrev μ-loop : tie.MeasureT-loop
+μ-loop file time bundle n sound₀ limits₀ i₀ sound limits i = n - i
+
+size-requires : tie.Need-size-requires Inv-loop μ-loop
+size-requires c κs = search needs
+
+loop-holds : tie.Need-loop-holds Inv-loop μ-loop
+loop-holds c =
+    let n = c .size .ensures in
+    (rw n (size-within 16 _), omega arith, judging-starts _ _ 16)
+
+record-requires : tie.Need-record-requires Inv-loop μ-loop
+record-requires c κs = search needs
+
+limit-requires : tie.Need-limit-requires Inv-loop μ-loop
+limit-requires c κs = search needs
+
+cast-limits : tie.Need-cast-limits Inv-loop μ-loop
+cast-limits c = search needs
+
+mul-limits : tie.Need-mul-limits Inv-loop μ-loop
+mul-limits c = search needs
+
+array-write-limits : tie.Need-array-write-limits Inv-loop μ-loop
+array-write-limits c = search needs
+
+between-sound-requires : tie.Need-between-sound-requires Inv-loop μ-loop
+between-sound-requires c κs = search needs
+
+with-requires : tie.Need-with-requires Inv-loop μ-loop
+with-requires c κs = search needs
+
+add-i : tie.Need-add-i Inv-loop μ-loop
+add-i c = search needs
+
+loop-less : tie.Need-loop-less Inv-loop μ-loop
+loop-less c = search needs
+
+loop-again : tie.Need-loop-again Inv-loop μ-loop
+loop-again c =
+    let l = c .before .before in
+    let p = l .before in
+    let t = p .before in
+    let a = t .before .before .before .before .args in
+    let s = a .file .now in
+    let j = t .before .loop .inv in
+    let limit = l .limit .ensures s ∙ ap (λ r. limitOf (certificateOf r s)) (p .«record» .ensures) in
+    let test = sym (c .before .between-sound .ensures ∙ ap (λ r. betweenSound (a .time) (certificateOf r s)) (p .«record» .ensures)) in
+    let room : t .before .loop .i < 16 = omega arith in (
+      omega arith,
+      omega arith,
+      ⊎-elim (λ w. judging-joins _ _ _ _ _ _ (j .2) room _ _ limit (test ∙ w .0 .taken) (w .2 ∙ w .1 .ensures))
+          (λ w. judging-passes _ _ _ _ _ _ (j .2) room _ _ limit (test ∙ w .0 .left) (w .1))
+          (c .if1 .came),
+    )
+
+returns : tie.Need-returns Inv-loop μ-loop
+unfolding soundPlaces placeLimits
+returns c =
+    let j = c .before .loop .inv in
+    judging-ends _ _ _ _ _ _ _ _ (j .2) (j .1) (c .loop-test .left) (c .before .before .size .ensures)
+
+pub places-between-spec : {M : Type 1} → statement M
+places-between-spec =
+    tie.close
+    (tie.spec
+    Inv-loop
+    μ-loop
+    size-requires
+    loop-holds
+    record-requires
+    limit-requires
+    cast-limits
+    mul-limits
+    array-write-limits
+    between-sound-requires
+    with-requires
+    add-i
+    loop-less
+    loop-again
+    returns)

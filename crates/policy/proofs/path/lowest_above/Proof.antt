@@ -1,0 +1,90 @@
+-- `lowest_above` answers the lowest root that issued the last place and may stand above. The invariant: it is the lowest of the roots
+-- from r on. Assumes nothing.
+use borrow.Author.Needs.{needs}
+use native.Mathlib.Omega.{arith}
+use Prim.Native.Nat.{_-_, _≤_}
+use mathlib.Core.Logic.{⊎-elim}
+use mathlib.Core.Path.{_≡_, sym, _∙_}
+use Rattle.policy.specs.Judging.{lowestAbove}
+use Rattle.policy.proofs.Paths.{lowestFrom, above-starts, above-ends, above-found, above-none, unissued, unsound, far}
+use Rattle.policy.proofs.path.lowest_above.Statement.{statement}
+use Rattle.policy.proofs.path.lowest_above.Tie as tie
+
+abbrev Inv-loop : tie.InvT-loop
+Inv-loop issued above limits n r₀ r = (r ≤ 32) × (lowestAbove issued above limits n ≡ lowestFrom issued above limits n r)
+
+abbrev μ-loop : tie.MeasureT-loop
+μ-loop issued above limits n r₀ r = 32 - r
+
+returns : tie.Need-returns Inv-loop μ-loop
+returns c = sym (above-none _ _ _ _ (c .if1 .taken))
+
+loop-holds : tie.Need-loop-holds Inv-loop μ-loop
+loop-holds c = (omega arith, above-starts _ _ _ _)
+
+cast-loop : tie.Need-cast-loop Inv-loop μ-loop
+cast-loop c = search needs
+
+has-requires : tie.Need-has-requires Inv-loop μ-loop
+has-requires c κs = search needs
+
+has-requires-2 : tie.Need-has-requires-2 Inv-loop μ-loop
+has-requires-2 c κs = search needs
+
+cast-if4 : tie.Need-cast-if4 Inv-loop μ-loop
+cast-if4 c = search needs
+
+mul-if4 : tie.Need-mul-if4 Inv-loop μ-loop
+mul-if4 c = search needs
+
+element-copy-out-if4 : tie.Need-element-copy-out-if4 Inv-loop μ-loop
+element-copy-out-if4 c = search needs
+
+returns-2 : tie.Need-returns-2 Inv-loop μ-loop
+returns-2 c =
+    let s = c .before .before in
+    let i = s .before .before in
+    let t = i .before .before in
+    let issues = sym (i .before .has .ensures) ∙ i .if2 .taken in
+    let sound = sym (s .before .has2 .ensures) ∙ s .if3 .taken in
+    sym (t .before .loop .inv .1 ∙ above-found _ _ _ _ _ (t .loop-test .taken) issues sound (c .if4 .taken))
+
+add-r : tie.Need-add-r Inv-loop μ-loop
+add-r c = search needs
+
+loop-less : tie.Need-loop-less Inv-loop μ-loop
+loop-less c = search needs
+
+loop-again : tie.Need-loop-again Inv-loop μ-loop
+loop-again c =
+    let t = c .before .before in
+    let k = t .loop-test .taken in (
+      omega arith,
+      t .before .loop .inv .1
+          ∙ ⊎-elim (λ w. far _ _ _ _ _ k (w .4 .left))
+          (⊎-elim (λ w. unsound _ _ _ _ _ k (sym (w .1 .ensures) ∙ w .2 .left)) (λ w. unissued _ _ _ _ _ k (sym (c .before .has .ensures) ∙ w .left)))
+          (c .if2 .came),
+    )
+
+returns-3 : tie.Need-returns-3 Inv-loop μ-loop
+returns-3 c = sym (c .before .loop .inv .1 ∙ above-ends _ _ _ _ _ (c .before .loop .inv .0) (c .loop-test .left))
+
+pub lowest-above-spec : {M : Type 1} → statement M
+lowest-above-spec =
+    tie.close
+    (tie.spec
+    Inv-loop
+    μ-loop
+    returns
+    loop-holds
+    cast-loop
+    has-requires
+    has-requires-2
+    cast-if4
+    mul-if4
+    element-copy-out-if4
+    returns-2
+    add-r
+    loop-less
+    loop-again
+    returns-3)

@@ -1,0 +1,80 @@
+-- `lowest_root` answers the lowest root by which a path qualifies. Assumes nothing.
+use borrow.Author.Needs.{needs}
+use native.Mathlib.Omega.{arith}
+use Prim.Native.Nat.{_-_}
+use lib.ListN.{length}
+use mathlib.Core.Path.{sym, _∙_}
+use Rattle.policy.proofs.Paths.{root-nowhere, root-past, root-lacks, root-stands}
+use Rattle.policy.proofs.path.lowest_root.Statement.{statement}
+use Rattle.policy.proofs.path.lowest_root.Tie as tie
+
+returns : tie.Need-returns
+returns c =
+    let a = c .before .before .args in
+    sym (root-nowhere (a .issued .now) (a .between) (a .limits .now) (a .above) (a .tops .now) (a .path .now) (c .if1 .taken))
+
+sub-last : tie.Need-sub-last
+sub-last c = search needs
+
+shared-slice-read-last : tie.Need-shared-slice-read-last
+shared-slice-read-last c = search needs
+
+cast-last : tie.Need-cast-last
+cast-last c =
+    let path = c .before .before .before .args .path .now in
+    omega (arith, c .shared-slice-known2 .given (length path - 1))
+
+returns-2 : tie.Need-returns-2
+returns-2 c =
+    let a = c .before .before .before .before .args in
+    sym (root-past (a .issued .now) (a .between) (a .limits .now) (a .above) (a .tops .now) (a .path .now) (c .if2 .taken))
+
+all-stand-requires : tie.Need-all-stand-requires
+all-stand-requires c κs = search needs
+
+mul-lowest-above : tie.Need-mul-lowest-above
+mul-lowest-above c = search needs
+
+element-copy-out-lowest-above : tie.Need-element-copy-out-lowest-above
+element-copy-out-lowest-above c = search needs
+
+sub-lowest-above : tie.Need-sub-lowest-above
+sub-lowest-above c = search needs
+
+lowest-above-requires : tie.Need-lowest-above-requires
+lowest-above-requires c κs = search needs
+
+returns-3 : tie.Need-returns-3
+returns-3 c =
+    let s = c .before .before in
+    let p = s .before .before in
+    let stands = sym (s .before .all-stand .ensures) ∙ s .if3 .taken in
+    let a = p .before .before .before .before .args in
+    c .lowest-above .ensures
+    ∙ sym
+    (root-stands (a .issued .now) (a .between) (a .limits .now) (a .above) (a .tops .now) (a .path .now)
+    (p .before .before .if1 .left)
+    (p .if2 .left)
+    stands)
+
+returns-4 : tie.Need-returns-4
+returns-4 c =
+    let a = c .before .before .before .before .before .before .args in
+    sym (root-lacks (a .issued .now) (a .between) (a .limits .now) (a .above) (a .tops .now) (a .path .now) (sym (c .before .all-stand .ensures) ∙ c .if3 .left))
+
+pub lowest-root-spec : {M : Type 1} → statement M
+lowest-root-spec =
+    tie.close
+    (tie.spec
+    returns
+    sub-last
+    shared-slice-read-last
+    cast-last
+    returns-2
+    all-stand-requires
+    mul-lowest-above
+    element-copy-out-lowest-above
+    sub-lowest-above
+    lowest-above-requires
+    returns-3
+    returns-4)

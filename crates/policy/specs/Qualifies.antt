@@ -1,0 +1,24 @@
+-- Which paths reach a root, and by which root a path qualifies (docs/CARD-FILE.md, "Policy"). Assumes nothing.
+use Prim.Native.Nat.{ℕ}
+use mathlib.Core.Bool.{Bool, false, _&&_}
+use mathlib.Core.List.{List, [], _∷_}
+use lib.ListN.{length}
+use Rattle.rows.specs.Rows.{seek}
+use Rattle.card.specs.Content.{Content, root}
+use Rattle.issuing.specs.Issued.{issued}
+use Rattle.policy.specs.Policy.{policy, chainOf}
+use Rattle.policy.specs.Judging.{lastOf}
+
+-- root r issued the last of a path
+abbrev pub reaches : Content → List ℕ → ℕ → Bool
+reaches c [] r = false
+reaches c (p ∷ l) r = issued c (root r) (lastOf p l)
+
+-- a path reaches root r, and the chain satisfies the policy
+abbrev pub qualifies : Content → List ℕ → ℕ → Bool
+qualifies c [] r = false
+qualifies c (p ∷ l) r = reaches c (p ∷ l) r && policy (c .now) (c .host) (chainOf c p l r)
+
+-- the lowest root by which a path qualifies; as many as there are roots where there is none
+unfoldable pub lowestRoot : Content → List ℕ → ℕ
+lowestRoot c p = seek (qualifies c p) 0 (length (c .roots))
