@@ -1,5 +1,6 @@
--- What the code's tests of names and key identifiers come to: flags as remainders and parts as bytes give `keys-fit`; with that asked
--- first, the names give `likely-names` and `likely-none`. Assumes nothing.
+-- What the code's tests of names, key identifiers and verdicts come to: flags as remainders and parts as bytes give `keys-fit`; with that
+-- asked first, the names give `likely-names` and `likely-none`; with the verdict asked before both, `after-signed` and `after-unsigned`.
+-- Assumes nothing.
 use Prim.Native.Nat.{ℕ, _/_, _%_}
 use mathlib.Core.Path.{_≡_, refl, sym, _∙_}
 use mathlib.Core.Bool.{Bool, true, false, _&&_}
@@ -61,3 +62,11 @@ module _ (s : List ℕ) (issuer subject : Record) where
   pub likely-none : keysFit (certificateOf issuer s) (certificateOf subject s) ≡ false → false ≡ likelyIssuedAt s issuer subject
   unfolding likelyIssuedAt
   likely-none h = after-no (bothSame (sameDn true) (nameP s (subject .names .issuer)) (nameP s (issuer .names .subject))) _ h
+
+-- ---- the verdict first
+
+pub after-signed : (a b r : Bool) → r ≡ b → a ≡ true → r ≡ a && b
+after-signed a b r h e = rw e h
+
+pub after-unsigned : (a b : Bool) → a ≡ false → false ≡ a && b
+after-unsigned a b e = rw e

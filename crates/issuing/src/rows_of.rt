@@ -72,19 +72,19 @@ fn root_row(file: &[u8], roots: Roots, verdicts: Verdicts, of: Record, subject: 
 {
     let n = roots.size();
     let mut row: u64 = 0;
-    let mut i: u8 = 0;
-    while i < n {
+    let mut root: u8 = 0;
+    while root < n {
         if root_issued(
             file,
             verdicts,
-            roots.record(RootPlace(i)),
-            RootPlace(i),
+            roots.record(RootPlace(root)),
+            RootPlace(root),
             of,
             subject,
         ) {
-            row = with(row, i);
+            row = with(row, root);
         }
-        i += 1;
+        root += 1;
     }
     row
 }

@@ -1,4 +1,4 @@
--- `root_row` joins each root that issued the subject. The invariant: the row of the roots below i. Assumes nothing.
+-- `root_row` joins each root that issued the subject. The invariant: the row of the roots below the one at hand. Assumes nothing.
 use borrow.Author.Needs.{needs}
 use Prim.Native.Nat.{_-_}
 use mathlib.Core.Logic.{⊎-elim}
@@ -9,10 +9,10 @@ use Rattle.issuing.proofs.rows_of.root_row.Statement.{statement}
 use Rattle.issuing.proofs.rows_of.root_row.Tie as tie
 
 abbrev Inv-loop : tie.InvT-loop
-Inv-loop file roots verdicts of subject n row₀ i₀ row i = RowTo (λ k. rootIssuedAt file roots verdicts of k (subject .0)) n row i
+Inv-loop file roots verdicts of subject n row₀ root₀ row root = RowTo (λ k. rootIssuedAt file roots verdicts of k (subject .0)) n row root
 
 abbrev μ-loop : tie.MeasureT-loop
-μ-loop file roots verdicts of subject n row₀ i₀ row i = n - i
+μ-loop file roots verdicts of subject n row₀ root₀ row root = n - root
 
 size-requires : tie.Need-size-requires Inv-loop μ-loop
 size-requires c κs = search needs
@@ -29,8 +29,8 @@ root-issued-requires c κs = search needs
 with-requires : tie.Need-with-requires Inv-loop μ-loop
 with-requires c κs = search needs
 
-add-i : tie.Need-add-i Inv-loop μ-loop
-add-i c = search needs
+add-root : tie.Need-add-root Inv-loop μ-loop
+add-root c = search needs
 
 loop-less : tie.Need-loop-less Inv-loop μ-loop
 loop-less c = search needs
@@ -59,7 +59,7 @@ root-row-spec =
     record-requires
     root-issued-requires
     with-requires
-    add-i
+    add-root
     loop-less
     loop-again
     returns)
