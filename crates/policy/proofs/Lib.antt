@@ -1,4 +1,5 @@
 pub mod AnyOf
+pub mod Frauds
 pub mod Hosts
 pub mod LeafRead
 pub mod Lowering

@@ -73,6 +73,7 @@ pub fn for_host(file: &[u8], host: &[u8], dns: Row) -> bool
     ensures { λ r. ⌜ r ≡ forHostAt (now (file .entry)) (now (host .entry)) dns ⌝ }
 {
     let n = host.len();
+    let listed = dns.count;
     if n == 0 {
         return true;
     }
@@ -80,7 +81,7 @@ pub fn for_host(file: &[u8], host: &[u8], dns: Row) -> bool
         return false;
     }
     let asked = lowered(host);
-    any_names(file, &asked[..n], dns.first, dns.count)
+    any_names(file, &asked[..n], dns.first, listed)
 }
 
 // One of n DNS names matches the lowered host.
@@ -124,7 +125,9 @@ fn lowered(name: &[u8]) -> [u8; 253]
     let mut out = [0u8; Host::MOST];
     let mut i: usize = 0;
     while i < name.len() {
-        out[i] = lower(name[i]);
+        let byte = name[i];
+        let low = lower(byte);
+        out[i] = low;
         i += 1;
     }
     out

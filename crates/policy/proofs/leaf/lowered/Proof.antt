@@ -16,8 +16,8 @@ abbrev μ-loop : tie.MeasureT-loop
 loop-holds : tie.Need-loop-holds Inv-loop μ-loop
 loop-holds c = low-starts _ _ (c .before .pre)
 
-shared-slice-read-lower : tie.Need-shared-slice-read-lower Inv-loop μ-loop
-shared-slice-read-lower c = search needs
+shared-slice-read-byte : tie.Need-shared-slice-read-byte Inv-loop μ-loop
+shared-slice-read-byte c = search needs
 
 lower-requires : tie.Need-lower-requires Inv-loop μ-loop
 lower-requires c κs = search needs
@@ -46,7 +46,7 @@ lowered-spec =
     Inv-loop
     μ-loop
     loop-holds
-    shared-slice-read-lower
+    shared-slice-read-byte
     lower-requires
     array-write-out
     add-i
