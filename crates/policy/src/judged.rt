@@ -92,12 +92,12 @@ fn between_sound(file: &[u8], time: u64, cert: Record) -> bool
 }
 
 // What is asked of a root, its path length aside.
-fn top_sound(time: u64, cert: Record) -> bool
-    ensures { λ r. ⌜ ((s : List ℕ) → r ≡ topSound time (certificateOf cert s)) ⌝ }
+fn top_sound(time: u64, root: Record) -> bool
+    ensures { λ r. ⌜ ((s : List ℕ) → r ≡ topSound time (certificateOf root s)) ⌝ }
 {
-    if in_date(time, cert) {
-        if handled(cert) {
-            return authority(cert);
+    if in_date(time, root) {
+        if handled(root) {
+            return authority(root);
         }
     }
     false
