@@ -1,20 +1,20 @@
 -- What is judged of a path is what the content says: the lowest root that `lowest_root` finds for a path from the leaf is the lowest by
 -- which the path qualifies (`judged-root`, `judged-lowest`). Assumes nothing.
 use Prim.Native.Nat.{ℕ, _<_, _≤_}
-use mathlib.Core.Path.{_≡_, refl, sym, ap, ap₂, _∙_}
+use mathlib.Core.Path.{_≡_, refl, sym, ap, _∙_}
 use mathlib.Core.Bool.{Bool, true, false, cond, _&&_, false≢true}
 use mathlib.Core.List.{List, [], _∷_, map}
 use native.Mathlib.Omega.{arith}
 use lib.Dec.{ltb}
 use lib.ListN.{length, getD, length-map}
-use borrow.Author.Tests.{lt-ltb, le-ltb, ltb-true, ltb-false}
+use borrow.Author.Tests.{lt-ltb, ltb-true, ltb-false}
 use Rattle.record.specs.Certificate.{Certificate}
 use Rattle.card.specs.Content.{Content, contentOf, root, bundled, certificateAt}
 use Rattle.card.specs.declared.Card.{Card}
 use Rattle.card.proofs.Sections.{CardRead}
 use Rattle.card.proofs.Standing.{count-few, roots-counted, roots-few}
 use Rattle.rows.specs.Rows.{has, seek}
-use Rattle.rows.proofs.Places.{Least, seek-least, seek-is, seek-same}
+use Rattle.rows.proofs.Places.{seek-least, seek-is, seek-same}
 use Rattle.issuing.specs.Issued.{issued}
 use Rattle.issuing.specs.Records.{rootRows}
 use Rattle.issuing.proofs.Agrees.{no-issuer, root-row-agrees}
@@ -88,10 +88,12 @@ module _ (s : List ℕ) (c : Card) (e : ℕ) (t : CardRead s c e) where
             → between && (b && above r) ≡ (b && policy (content .now) (content .host) (chainOf content 0 l r))
         by-issuer false k = no-and between false refl
         by-issuer true k =
-            rw (all-stand-read s c e t (c .task .now) 0 l inside (omega arith)
-            , top-read s c e t (c .task .now) (length l) r there (issuer-there r last k) few
-            , policy-by-seat (c .task .now) (content .host) (place 0) (map place l) (top r)
-            , length-map)
+            rw (
+              all-stand-read s c e t (c .task .now) 0 l inside (omega arith),
+              top-read s c e t (c .task .now) (length l) r there (issuer-there r last k) few,
+              policy-by-seat (c .task .now) (content .host) (place 0) (map place l) (top r),
+              length-map,
+            )
             (two-orders (leafSound (c .task .now) (content .host) (place 0)) (allBetween (c .task .now) 0 (map place l))
             (topSound (c .task .now) (top r)) (allows (length l) (top r)))
 

@@ -1,7 +1,7 @@
 -- What was judged once per certificate is what a chain's certificates are asked where they stand, on a card that was read:
 -- those between (`all-stand-read`), the roots (`top-read`), the leaf (`leaf-read`). Assumes nothing.
 use Prim.Native.Nat.{ℕ, _+_, _<_, _≤_}
-use mathlib.Core.Path.{_≡_, refl, sym, ap, ap₂, _∙_}
+use mathlib.Core.Path.{_≡_, refl, ap₂}
 use mathlib.Core.Bool.{Bool, true, false, cond, _&&_}
 use mathlib.Core.List.{List, [], _∷_, map}
 use mathlib.Core.Option.{Option, none, some}
@@ -110,7 +110,7 @@ module _ (s : List ℕ) (c : Card) (e : ℕ) (t : CardRead s c e) (time : ℕ) w
 
   pub top-read : (k r : ℕ) → 0 < c .bundle .count → r < c .roots .count → k ≤ 255
       → stands (rootsAbove s time c) (rootLimits s (c .roots)) k r
-        ≡ (leafSound time (contentOf c s .host) (place 0) && topSound time (top r) && allows k (top r))
+      ≡ (leafSound time (contentOf c s .host) (place 0) && topSound time (top r) && allows k (top r))
   unfolding stands rootsAbove contentOf
   top-read k r z h f =
       rw (above-has (leafSoundAt s time (bytesOf (c .task .host .name) s) (recordOf (c .bundle .count) (c .bundle .records) 0)) r (soundRoots s time (c .roots)), leaf-read z, tops-read r h, top-limits-read r h, limit-allows k (top r) f)
