@@ -33,7 +33,6 @@ judgedRoot issued between limits above tops [] = 32
 judgedRoot issued between limits above tops (p ∷ l) =
     cond (ltb (lastOf p l) 16 && allStand between limits 0 l) (lowestAbove (getD issued (lastOf p l) 0) above tops (length l)) 32
 
--- a root's number; 32 for none
-abbrev pub topNumber : Top → ℕ
-topNumber (top.Root r) = r .0
-topNumber top.None = 32
+-- the root of that number; none past the 32 that there can be
+abbrev pub topOf : ℕ → Top
+topOf n = cond (ltb n 32) (top.Root (record { 0 = n })) top.None

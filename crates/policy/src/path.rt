@@ -5,7 +5,7 @@ use card::Roots;
 use rows::has;
 ghost use mathlib.Core.Path.{_≡_};
 ghost use lib.ListN.{drop};
-ghost use Rattle.policy.specs.Judging.{allStand, lowestAbove, judgedRoot, topNumber};
+ghost use Rattle.policy.specs.Judging.{allStand, lowestAbove, judgedRoot, topOf};
 
 // The root above a path, if there is one.
 pub enum Top {
@@ -23,7 +23,7 @@ pub fn lowest_root(
     above: u64,
     tops: &[usize; 32],
 ) -> Top
-    ensures { λ r. ⌜ topNumber r ≡ judgedRoot (now (issued .entry)) between (now (limits .entry)) above (now (tops .entry)) (now (path .entry)) ⌝ }
+    ensures { λ r. ⌜ r ≡ topOf (judgedRoot (now (issued .entry)) between (now (limits .entry)) above (now (tops .entry)) (now (path .entry))) ⌝ }
 {
     let n = path.len();
     if n == 0 {
@@ -62,7 +62,7 @@ fn all_stand(path: &[u8], between: u64, limits: &[usize; 16]) -> bool
 
 // The lowest root that issued the last place and may stand above, with n certificates between it and the leaf.
 fn lowest_above(issued: u64, above: u64, limits: &[usize; 32], n: usize) -> Top
-    ensures { λ r. ⌜ topNumber r ≡ lowestAbove issued above (now (limits .entry)) n ⌝ }
+    ensures { λ r. ⌜ r ≡ topOf (lowestAbove issued above (now (limits .entry)) n) ⌝ }
 {
     if issued == 0 {
         return Top::None;

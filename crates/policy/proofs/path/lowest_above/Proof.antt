@@ -4,8 +4,9 @@ use borrow.Author.Needs.{needs}
 use native.Mathlib.Omega.{arith}
 use Prim.Native.Nat.{_-_, _≤_}
 use mathlib.Core.Logic.{⊎-elim}
-use mathlib.Core.Path.{_≡_, sym, _∙_}
-use Rattle.policy.specs.Judging.{lowestAbove}
+use borrow.Author.Tests.{lt-ltb}
+use mathlib.Core.Path.{_≡_, sym, ap, _∙_}
+use Rattle.policy.specs.Judging.{lowestAbove, topOf}
 use Rattle.policy.proofs.Paths.{lowestFrom, above-starts, above-ends, above-found, above-none, unissued, unsound, far}
 use Rattle.policy.proofs.path.lowest_above.Statement.{statement}
 use Rattle.policy.proofs.path.lowest_above.Tie as tie
@@ -17,7 +18,7 @@ abbrev μ-loop : tie.MeasureT-loop
 μ-loop issued above limits n r₀ r = 32 - r
 
 returns : tie.Need-returns Inv-loop μ-loop
-returns c = sym (above-none _ _ _ _ (c .if1 .taken))
+returns c = sym (ap topOf (above-none _ _ _ _ (c .if1 .taken)))
 
 loop-holds : tie.Need-loop-holds Inv-loop μ-loop
 loop-holds c = (omega arith, above-starts _ _ _ _)
@@ -47,7 +48,7 @@ returns-2 c =
     let t = i .before .before in
     let issues = sym (i .before .has .ensures) ∙ i .if2 .taken in
     let sound = sym (s .before .has2 .ensures) ∙ s .if3 .taken in
-    sym (t .before .loop .inv .1 ∙ above-found _ _ _ _ _ (t .loop-test .taken) issues sound (c .if4 .taken))
+    sym (ap topOf (t .before .loop .inv .1 ∙ above-found _ _ _ _ _ (t .loop-test .taken) issues sound (c .if4 .taken)) ∙ rw (lt-ltb _ 32 (t .loop-test .taken)))
 
 add-r : tie.Need-add-r Inv-loop μ-loop
 add-r c = search needs
@@ -67,7 +68,7 @@ loop-again c =
     )
 
 returns-3 : tie.Need-returns-3 Inv-loop μ-loop
-returns-3 c = sym (c .before .loop .inv .1 ∙ above-ends _ _ _ _ _ (c .before .loop .inv .0) (c .loop-test .left))
+returns-3 c = sym (ap topOf (c .before .loop .inv .1 ∙ above-ends _ _ _ _ _ (c .before .loop .inv .0) (c .loop-test .left)))
 
 pub lowest-above-spec : {M : Type 1} → statement M
 lowest-above-spec =

@@ -3,7 +3,8 @@ use borrow.Author.Needs.{needs}
 use native.Mathlib.Omega.{arith}
 use Prim.Native.Nat.{_-_}
 use lib.ListN.{length}
-use mathlib.Core.Path.{sym, _∙_}
+use mathlib.Core.Path.{sym, ap, _∙_}
+use Rattle.policy.specs.Judging.{topOf}
 use Rattle.policy.proofs.Paths.{root-nowhere, root-past, root-lacks, root-stands}
 use Rattle.policy.proofs.path.lowest_root.Statement.{statement}
 use Rattle.policy.proofs.path.lowest_root.Tie as tie
@@ -11,7 +12,7 @@ use Rattle.policy.proofs.path.lowest_root.Tie as tie
 returns : tie.Need-returns
 returns c =
     let a = c .before .before .args in
-    sym (root-nowhere (a .issued .now) (a .between) (a .limits .now) (a .above) (a .tops .now) (a .path .now) (c .if1 .taken))
+    sym (ap topOf (root-nowhere (a .issued .now) (a .between) (a .limits .now) (a .above) (a .tops .now) (a .path .now) (c .if1 .taken)))
 
 sub-last : tie.Need-sub-last
 sub-last c = search needs
@@ -27,7 +28,7 @@ cast-last c =
 returns-2 : tie.Need-returns-2
 returns-2 c =
     let a = c .before .before .before .before .args in
-    sym (root-past (a .issued .now) (a .between) (a .limits .now) (a .above) (a .tops .now) (a .path .now) (c .if2 .taken))
+    sym (ap topOf (root-past (a .issued .now) (a .between) (a .limits .now) (a .above) (a .tops .now) (a .path .now) (c .if2 .taken)))
 
 all-stand-requires : tie.Need-all-stand-requires
 all-stand-requires c κs = search needs
@@ -52,15 +53,16 @@ returns-3 c =
     let a = p .before .before .before .before .args in
     c .lowest-above .ensures
     ∙ sym
+    (ap topOf
     (root-stands (a .issued .now) (a .between) (a .limits .now) (a .above) (a .tops .now) (a .path .now)
     (p .before .before .if1 .left)
     (p .if2 .left)
-    stands)
+    stands))
 
 returns-4 : tie.Need-returns-4
 returns-4 c =
     let a = c .before .before .before .before .before .before .args in
-    sym (root-lacks (a .issued .now) (a .between) (a .limits .now) (a .above) (a .tops .now) (a .path .now) (sym (c .before .all-stand .ensures) ∙ c .if3 .left))
+    sym (ap topOf (root-lacks (a .issued .now) (a .between) (a .limits .now) (a .above) (a .tops .now) (a .path .now) (sym (c .before .all-stand .ensures) ∙ c .if3 .left)))
 
 pub lowest-root-spec : {M : Type 1} → statement M
 lowest-root-spec =
