@@ -1,0 +1,28 @@
+-- Laws of `slotsOf`: where it is the formula, where it is 0, and what lies between. Assumes nothing.
+use mathlib.Core.Path.{_≡_}
+use mathlib.Core.Logic.{⊎-elim}
+use Prim.Native.Nat.{ℕ, _-_, _≤_, _<_}
+use native.Mathlib.Nat.{eq-zero-or-pos, mul-le-mul}
+use native.Mathlib.Omega.{arith}
+use borrow.Author.Tests.{le-leb, lt-leb}
+use Rattle.order.specs.Slots.{formula, slotsOf}
+
+pub slots-formula : (n : ℕ) → 1 ≤ n → n ≤ 16 → slotsOf n ≡ formula n
+slots-formula n h k = rw (le-leb 1 n h, le-leb n 16 k)
+
+pub slots-past : (n : ℕ) → 16 < n → slotsOf n ≡ 0
+slots-past n h = rw (le-leb 1 n (omega arith), lt-leb n 16 h)
+
+-- one certificate or more need a slot
+pub slots-some : (n : ℕ) → 1 ≤ n → n ≤ 16 → 1 ≤ slotsOf n
+slots-some n h k = rw (slots-formula n h k) (omega arith)
+
+formula-most : (n : ℕ) → n ≤ 16 → formula n ≤ 106
+formula-most n h =
+    let a : n - 1 ≤ 15 = omega arith in
+    let b : n - 2 ≤ 14 = omega arith in
+    omega (arith, mul-le-mul a b)
+
+-- sixteen need the most
+pub slots-most : (n : ℕ) → n ≤ 16 → slotsOf n ≤ 106
+slots-most n h = ⊎-elim (λ e. rw e (omega arith)) (λ some. rw (slots-formula n some h) (formula-most n h)) (eq-zero-or-pos n)

@@ -1,0 +1,11 @@
+pub mod Bound
+pub mod Cases
+pub mod Formula
+pub mod Lists
+pub mod Order
+pub mod Rank
+pub mod Simple
+pub mod Stack
+pub mod Table
+pub mod Tree
+pub mod Waiting

@@ -1,0 +1,32 @@
+-- `slots` answers by the printed table: its rule is a test that antt computes at each of its entries. Assumes nothing.
+use mathlib.Core.Bool.{Bool}
+use mathlib.Core.List.{List}
+use mathlib.Core.Path.{_≡_, sym}
+use Prim.Native.Nat.{ℕ, _<_}
+use lib.Dec.{T, eqb, eqb→eq}
+use lib.ListN.{length, getD}
+use borrow.Author.Needs.{needs}
+use Rattle.order.specs.Slots.{slotsOf}
+use Rattle.order.proofs.Formula.{slots-past}
+use Rattle.order.proofs.Table.{every, at}
+use Rattle.order.proofs.slots.Statement.{statement}
+use Rattle.order.proofs.slots.Tie as tie
+
+-- an entry x at place n is right
+abbrev right : ℕ → ℕ → Bool
+right n x = eqb x (slotsOf n)
+
+rule : (xs : List ℕ) (n : ℕ) → T (every right 0 xs) → n < length xs → getD xs n 0 ≡ slotsOf n
+rule xs n t h = eqb→eq (getD xs n 0) (slotsOf n) (at right xs t n h)
+
+array-read-result : tie.Need-array-read-result
+array-read-result c = search needs
+
+returns : tie.Need-returns
+returns c = let t : Unit {0} = tt in let h : c .before .args .n < 17 = search needs in rw rule
+
+returns-2 : tie.Need-returns-2
+returns-2 c = sym (slots-past (c .before .args .n) (search needs))
+
+pub slots-spec : {M : Type 1} → statement M
+slots-spec = tie.close (tie.spec array-read-result returns returns-2)

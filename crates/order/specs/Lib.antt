@@ -1,0 +1,5 @@
+pub mod Listing
+pub mod Paths
+pub mod Waiting
+pub mod Slots
+pub mod Walk

@@ -1,0 +1,77 @@
+-- The simple paths as a program can follow them: a walk of the tree, and upstream's stack. A reader need not believe this file: no public contract
+-- rests on it, and the theorems of proofs/ say that its paths and its stack are those of Paths and Waiting. Assumes nothing.
+use mathlib.Core.Bool.{Bool, true, false, not, _&&_, _||_}
+use mathlib.Core.List.{List, [], _∷_, _++_, map, flatMap}
+use Prim.Native.Nat.{ℕ, zero, suc, _-_}
+use lib.Dec.{eqb}
+use lib.ListN.{length}
+use Rattle.order.specs.Paths.{Issuing}
+
+abbrev pub put : {A : Type 0} → Bool → A → List A → List A
+put true x xs = x ∷ xs
+put false x xs = xs
+
+-- the elements that pass a test
+abbrev pub keep : {A : Type 0} → (A → Bool) → List A → List A
+keep f [] = []
+keep f (x ∷ xs) = put (f x) x (keep f xs)
+
+-- n - 1, .., 0
+abbrev pub down : ℕ → List ℕ
+down zero = []
+down (suc n) = n ∷ down n
+
+-- is place i in the path?
+abbrev pub has : ℕ → List ℕ → Bool
+has i [] = false
+has i (x ∷ p) = eqb i x || has i p
+
+-- the last place of a path, d for the empty one
+abbrev pub last : ℕ → List ℕ → ℕ
+last d [] = d
+last d (x ∷ p) = last x p
+
+-- p and then place i
+abbrev pub snoc : List ℕ → ℕ → List ℕ
+snoc p i = p ++ i ∷ []
+
+-- the places by which p can go on, the largest first
+unfoldable pub next : Issuing → List ℕ → List ℕ
+next g p = keep (λ i. not (has i p) && g .issued i (last 0 p)) (down (g .places))
+
+-- p so extended
+unfoldable pub kids : Issuing → List ℕ → List (List ℕ)
+kids g p = map (snoc p) (next g p)
+
+-- p and all that goes on from it, down to f more places
+unfoldable pub walk : Issuing → ℕ → List ℕ → List (List ℕ)
+walk g zero p = p ∷ []
+walk g (suc f) p = p ∷ flatMap (walk g f) (kids g p)
+
+-- p and all that goes on from it
+unfoldable pub visit : Issuing → List ℕ → List (List ℕ)
+visit g p = walk g (g .places - length p) p
+
+-- all that goes on from [0]
+abbrev pub paths : Issuing → List (List ℕ)
+paths g = visit g (0 ∷ [])
+
+-- a step on the stack: its top is taken off, and the top's children are put on
+abbrev pub pop : Issuing → List (List ℕ) → List (List ℕ)
+pop g [] = []
+pop g (p ∷ s) = kids g p ++ s
+
+-- the stack after k steps
+abbrev pub stack : Issuing → ℕ → List (List ℕ)
+stack g zero = (0 ∷ []) ∷ []
+stack g (suc k) = pop g (stack g k)
+
+-- the top, where there is one
+abbrev pub top : List (List ℕ) → List (List ℕ)
+top [] = []
+top (p ∷ s) = p ∷ []
+
+-- what the stack handed out in k steps, the first one first
+abbrev pub taken : Issuing → ℕ → List (List ℕ)
+taken g zero = []
+taken g (suc k) = taken g k ++ top (stack g k)

@@ -1,0 +1,36 @@
+// Simple paths, their order, what waits, and how many slots that needs: definitions in specs/, theorems in proofs/, and the printed table. It finds
+// no path; the search stands on it.
+ghost use mathlib.Core.Path.{_≡_};
+ghost use Rattle.order.specs.Slots.{slotsOf};
+
+// The printed table: the slots that n certificates need, for n = 0..16.
+const SLOTS: [u8; 17] = [
+    0,
+    1,
+    1,
+    2,
+    4,
+    7,
+    11,
+    16,
+    22,
+    29,
+    37,
+    46,
+    56,
+    67,
+    79,
+    92,
+    106,
+];
+
+// The slots that n certificates need; 0 past the table's end.
+pub fn slots(n: u8) -> u8
+    ensures { λ r. ⌜ r ≡ slotsOf n ⌝ }
+{
+    let at = n as usize;
+    if at < SLOTS.len() {
+        return SLOTS[at];
+    }
+    0
+}
