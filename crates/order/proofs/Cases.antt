@@ -5,7 +5,7 @@ use mathlib.Core.Path.{refl}
 use Prim.Native.Nat.{ℕ, _≤_}
 use native.Mathlib.Omega.{arith}
 use lib.ListN.{length}
-use Rattle.order.specs.Paths.{Issuing, Listing, Rank, Count}
+use Rattle.order.specs.Paths.{Places, Listing, Rank, Count}
 use Rattle.order.specs.Waiting.{After}
 use Rattle.order.specs.Walk.{next, kids, walk, visit}
 use Rattle.order.proofs.Bound.{after-fits}
@@ -14,8 +14,8 @@ use Rattle.order.proofs.Tree.{paths-listing}
 use Rattle.order.proofs.Waiting.{stack-after}
 
 -- four certificates that all issue all
-abbrev pub four : Issuing
-four = record { places = 4; issued = λ i j. true }
+abbrev pub four : Places
+four = record { size = 4; issued = λ i j. true }
 
 pub four-listing : Listing four
     ((0 ∷ [])

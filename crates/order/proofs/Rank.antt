@@ -1,16 +1,16 @@
--- A path's rank is its place in the listing, counted from 1: each simple path has one, and only one. So has the number of simple paths. Assumes nothing.
+-- A path's rank is its place in the listing, counted from 1: each simple path has one rank, and there is one number of simple paths. Assumes nothing.
 use mathlib.Core.List.{List, []}
 use mathlib.Core.Path.{_≡_, refl, sym, ap, _∙_}
 use Prim.Native.Nat.{ℕ, suc, _<_}
 use native.Mathlib.Nat.{le-of-lt}
 use lib.ListN.{length, take, drop, getD}
 use lib.Seq.{split-at, length-take-le}
-use Rattle.order.specs.Paths.{Issuing, Simple, Listing, Rank, Count}
+use Rattle.order.specs.Paths.{Places, Simple, Listing, Rank, Count}
 use Rattle.order.proofs.Lists.{lists-unique, lists-before, mem-index}
 use Rattle.order.proofs.Order.{irrefl, trans}
 use Rattle.order.proofs.Tree.{listing-unique, listing-exists}
 
-module _ (g : Issuing) where
+module _ (g : Places) where
   pub rank-unique : (p : List ℕ) {r r′ : ℕ} → Rank g p r → Rank g p r′ → r ≡ r′
   rank-unique p (qs, l, e) (qs′, l′, e′) = e ∙ ap (λ q. suc (length q)) (lists-unique irrefl trans l l′) ∙ sym e′
 

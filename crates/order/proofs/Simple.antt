@@ -9,8 +9,8 @@ use native.Mathlib.Omega.{arith}
 use lib.Dec.{T, eqb, eqb→eq, eqb-refl}
 use lib.ListN.{length, length-append}
 use Rattle.order.specs.Listing.{_among_, Sorted, nil, cons, Lists}
-use Rattle.order.specs.Paths.{Issuing, Linked, Simple}
-use Rattle.order.specs.Walk.{down, has, last, snoc, next}
+use Rattle.order.specs.Paths.{Places, Linked, Simple}
+use Rattle.order.specs.Walk.{down, used, last, snoc, next}
 use Rattle.order.proofs.Lists.{pigeon, sorted-one, sorted-append, sorted-split, sorted-imp, sorted-keep, keep-mem, mem-keep}
 
 -- ---- the tests
@@ -27,19 +27,19 @@ not-false : (b : Bool) → (b ≡ true → ⊥) → not b ≡ true
 not-false true h = absurd (h refl)
 not-false false h = refl
 
-has-mem : (i : ℕ) (p : List ℕ) → has i p ≡ true → i among p
-has-mem i [] e = absurd (false≢true e)
-has-mem i (x ∷ p) e = go (λ h. has-mem i p h) (eqb i x) refl e
+used-mem : (i : ℕ) (p : List ℕ) → used i p ≡ true → i among p
+used-mem i [] e = absurd (false≢true e)
+used-mem i (x ∷ p) e = go (λ h. used-mem i p h) (eqb i x) refl e
   where
-    go : (has i p ≡ true → i among p) → (b : Bool) → eqb i x ≡ b → (b || has i p) ≡ true → i among x ∷ p
+    go : (used i p ≡ true → i among p) → (b : Bool) → eqb i x ≡ b → (b || used i p) ≡ true → i among x ∷ p
     go rest true t h = here (eqb→eq i x (rw t tt))
     go rest false t h = there (rest h)
 
-mem-has : (i : ℕ) (p : List ℕ) → i among p → has i p ≡ true
-mem-has i (x ∷ p) (here e) = rw (← e) (rw (T-true (eqb i i) (eqb-refl i)))
-mem-has i (x ∷ p) (there m) = go (eqb i x) (mem-has i p m)
+mem-used : (i : ℕ) (p : List ℕ) → i among p → used i p ≡ true
+mem-used i (x ∷ p) (here e) = rw (← e) (rw (T-true (eqb i i) (eqb-refl i)))
+mem-used i (x ∷ p) (there m) = go (eqb i x) (mem-used i p m)
   where
-    go : (b : Bool) → has i p ≡ true → (b || has i p) ≡ true
+    go : (b : Bool) → used i p ≡ true → (b || used i p) ≡ true
     go true h = refl
     go false h = h
 
@@ -63,7 +63,7 @@ sorted-down (suc n) = cons (λ y m. down-mem n m) (sorted-down n)
 
 -- ---- beginnings, and one place more
 
-module _ (g : Issuing) where
+module _ (g : Places) where
   linked-prefix : (p s : List ℕ) → Linked g (p ++ s) → Linked g p
   linked-prefix [] s l = tt
   linked-prefix (x ∷ []) s l = tt
@@ -82,8 +82,8 @@ module _ (g : Issuing) where
   pub simple-some : {p : List ℕ} → Simple g p → p ≢ []
   simple-some s e = cons≢nil (sym (s .start .1) ∙ e)
 
-  pub simple-places : {p : List ℕ} → Simple g p → 0 < g .places
-  simple-places s = s .inside 0 (rw (s .start .1) (here refl))
+  pub simple-size : {p : List ℕ} → Simple g p → 0 < g .size
+  simple-size s = s .inside 0 (rw (s .start .1) (here refl))
 
   pub simple-prefix : (p s : List ℕ) → p ≢ [] → Simple g (p ++ s) → Simple g p
   simple-prefix [] s h q = absurd (h refl)
@@ -94,15 +94,15 @@ module _ (g : Issuing) where
     linked = linked-prefix (x ∷ p) s (q .linked);
   }
 
-  pub simple-length : {p : List ℕ} → Simple g p → length p ≤ g .places
-  simple-length {p} s = rw length-down at (pigeon p (down (g .places)) (s .once) (λ x m. mem-down (g .places) (s .inside x m)))
+  pub simple-length : {p : List ℕ} → Simple g p → length p ≤ g .size
+  simple-length {p} s = rw length-down at (pigeon p (down (g .size)) (s .once) (λ x m. mem-down (g .size) (s .inside x m)))
 
   pub next-sorted : (p : List ℕ) → Sorted (λ a b. b < a) (next g p)
   unfolding next
-  next-sorted p = sorted-keep (λ i. not (has i p) && g .issued i (last 0 p)) (sorted-down (g .places))
+  next-sorted p = sorted-keep (λ i. not (used i p) && g .issued i (last 0 p)) (sorted-down (g .size))
 
   module _ {p : List ℕ} (s : Simple g p) where
-    simple-snoc : (i : ℕ) → i < g .places → (i among p → ⊥) → g .issued i (last 0 p) ≡ true → Simple g (snoc p i)
+    simple-snoc : (i : ℕ) → i < g .size → (i among p → ⊥) → g .issued i (last 0 p) ≡ true → Simple g (snoc p i)
     simple-snoc i h d e = record {
       start = (snoc (s .start .0) i, ap (λ q. snoc q i) (s .start .1));
       inside = λ x m. ⊎-elim (λ l. s .inside x l) (λ r. let e : x ≡ i = List·Memᴰ·eq-of-singleton r in rw e h) (List·Memᴰ·append-cases p m);
@@ -116,24 +116,24 @@ module _ (g : Issuing) where
     next-lists = record {
       sorted = next-sorted p;
       only = λ i m.
-          let (k, t) = keep-mem test (down (g .places)) m in
-          let (a, e) = and-eq-true-iff (not (has i p)) (g .issued i (last 0 p)) .0 t in
-          simple-snoc i (down-mem (g .places) k) (λ l. false≢true (sym (not-true (has i p) a) ∙ mem-has i p l)) e;
-      all = λ i q. mem-keep test (mem-down (g .places) (q .inside i (Memᴰ·append-right p (here refl))))
-          (and-eq-true-iff (not (has i p)) (g .issued i (last 0 p)) .1
-          (not-false (has i p) (λ e. sorted-split p (q .once) .2 i i (has-mem i p e) (here refl) refl), linked-last p i (simple-some s) (q .linked)));
+          let (k, t) = keep-mem test (down (g .size)) m in
+          let (a, e) = and-eq-true-iff (not (used i p)) (g .issued i (last 0 p)) .0 t in
+          simple-snoc i (down-mem (g .size) k) (λ l. false≢true (sym (not-true (used i p) a) ∙ mem-used i p l)) e;
+      all = λ i q. mem-keep test (mem-down (g .size) (q .inside i (Memᴰ·append-right p (here refl))))
+          (and-eq-true-iff (not (used i p)) (g .issued i (last 0 p)) .1
+          (not-false (used i p) (λ e. sorted-split p (q .once) .2 i i (used-mem i p e) (here refl) refl), linked-last p i (simple-some s) (q .linked)));
     }
       where
         test : ℕ → Bool
-        test i = not (has i p) && g .issued i (last 0 p)
+        test i = not (used i p) && g .issued i (last 0 p)
 
     -- p and the places by which it goes on are distinct places
-    pub next-few : length (next g p) + length p ≤ g .places
-    next-few = rw (← length-append (next g p) p) (rw length-down at (pigeon (next g p ++ p) (down (g .places))
+    pub next-few : length (next g p) + length p ≤ g .size
+    next-few = rw (← length-append (next g p) p) (rw length-down at (pigeon (next g p ++ p) (down (g .size))
         (sorted-append (sorted-imp (λ a b h e. lt-irrefl b (rw e at h)) (next-sorted p)) (s .once) (λ x y m k e. apart x m (rw (sym e) at k)))
-        (λ x m. mem-down (g .places) (⊎-elim (λ l. below x l) (λ r. s .inside x r) (List·Memᴰ·append-cases (next g p) m)))))
+        (λ x m. mem-down (g .size) (⊎-elim (λ l. below x l) (λ r. s .inside x r) (List·Memᴰ·append-cases (next g p) m)))))
       where
-        below : (x : ℕ) → x among next g p → x < g .places
+        below : (x : ℕ) → x among next g p → x < g .size
         below x m = next-lists .only x m .inside x (Memᴰ·append-right p (here refl))
 
         apart : (x : ℕ) → x among next g p → x among p → ⊥

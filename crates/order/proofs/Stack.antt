@@ -7,28 +7,28 @@ use native.Mathlib.Numerals.{add-one}
 use lib.ListN.{take, drop, take-append-drop}
 use lib.Seq.{drop-drop, take-add}
 use Rattle.order.specs.Listing.{_among_, Sorted}
-use Rattle.order.specs.Paths.{Issuing, Simple, Before}
+use Rattle.order.specs.Paths.{Places, Simple, Before}
 use Rattle.order.specs.Waiting.{Waiting}
 use Rattle.order.specs.Walk.{snoc, kids, visit, paths, pop, stack, top, taken}
 use Rattle.order.proofs.Lists.{mem-flat, flat-mem, flat-append, sorted-split, sorted-heads}
 use Rattle.order.proofs.Order.{irrefl}
 use Rattle.order.proofs.Simple.{simple-some}
-use Rattle.order.proofs.Tree.{kids-mem, kid-simple, tree, visit-self, visit-is, visit-cases, visit-below, visit-simple, root, paths-listing}
+use Rattle.order.proofs.Tree.{kids-mem, kid-simple, tree, visit-self, visit-is, visit-cases, visit-below, visit-simple, start-simple, paths-listing}
 
 front-snoc : (p : List ℕ) (i : ℕ) → dropLast (snoc p i) ≡ p
 front-snoc [] i = refl
 front-snoc (x ∷ []) i = refl
 front-snoc (x ∷ y ∷ p) i = ap (λ r. x ∷ r) (front-snoc (y ∷ p) i)
 
-module _ (g : Issuing) where
+module _ (g : Places) where
   pub kid-front : (p : List ℕ) {c : List ℕ} → c among kids g p → dropLast c ≡ p
   kid-front p m = let (i, _, e) = kids-mem g p m in ap dropLast (sym e) ∙ front-snoc p i
 
-module _ (g : Issuing) (some : 0 < g .places) where
+module _ (g : Places) (some : 0 < g .size) where
   -- ---- what is left of the listing is what the stack's paths lead to
 
   pub stack-simple : (k : ℕ) (p : List ℕ) → p among stack g k → Simple g p
-  stack-simple zero p m = rw (List·Memᴰ·eq-of-singleton m) (root g some)
+  stack-simple zero p m = rw (List·Memᴰ·eq-of-singleton m) (start-simple g some)
   stack-simple (suc k) p m = go (stack g k) (stack-simple k) m
     where
       go : (s : List (List ℕ)) → ((q : List ℕ) → q among s → Simple g q) → p among pop g s → Simple g p

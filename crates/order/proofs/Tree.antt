@@ -7,13 +7,13 @@ use native.Mathlib.Nat.{eq-zero-or-pos}
 use native.Mathlib.Omega.{arith}
 use lib.ListN.{length, length-append}
 use Rattle.order.specs.Listing.{_among_, Sorted, nil, cons}
-use Rattle.order.specs.Paths.{Issuing, Simple, Before, Listing}
+use Rattle.order.specs.Paths.{Places, Simple, Before, Listing}
 use Rattle.order.specs.Walk.{snoc, next, kids, walk, visit, paths}
 use Rattle.order.proofs.Lists.{none-nil, mem-flat, flat-mem, flat-same, sorted-one, sorted-map, sorted-flat, lists-unique}
 use Rattle.order.proofs.Order.{irrefl, trans, longer, fork}
-use Rattle.order.proofs.Simple.{next-sorted, next-lists, simple-places, simple-length, simple-prefix}
+use Rattle.order.proofs.Simple.{next-sorted, next-lists, simple-size, simple-length, simple-prefix}
 
-module _ (g : Issuing) where
+module _ (g : Places) where
   -- ---- children
 
   pub kids-mem : (p : List ℕ) {c : List ℕ} → c among kids g p → (i : ℕ) × i among next g p × (snoc p i ≡ c)
@@ -68,9 +68,9 @@ module _ (g : Issuing) where
   -- ---- induction over the tree: to prove P of a simple path, take it for its children
 
   pub tree : (P : List ℕ → Type 0) → ((p : List ℕ) → Simple g p → ((c : List ℕ) → c among kids g p → P c) → P p) → {p : List ℕ} → Simple g p → P p
-  tree P step {p} s = go (g .places) p s (omega arith)
+  tree P step {p} s = go (g .size) p s (omega arith)
     where
-      go : (f : ℕ) (p : List ℕ) → Simple g p → g .places ≤ f + length p → P p
+      go : (f : ℕ) (p : List ℕ) → Simple g p → g .size ≤ f + length p → P p
       go zero p s h = step p s (λ c m. absurd (omega (arith, simple-length g (kid-simple s m), kid-length p m)))
       go (suc f) p s h = step p s (λ c m. go f c (kid-simple s m) (omega (arith, kid-length p m)))
 
@@ -78,16 +78,16 @@ module _ (g : Issuing) where
 
   pub visit-self : (p : List ℕ) → p among visit g p
   unfolding visit
-  visit-self p = walk-self (g .places - length p) p
+  visit-self p = walk-self (g .size - length p) p
 
   pub visit-is : {p : List ℕ} → Simple g p → visit g p ≡ p ∷ flatMap (visit g) (kids g p)
   unfolding visit walk flatMap
-  visit-is {p} s = go (g .places - length p) refl
+  visit-is {p} s = go (g .size - length p) refl
     where
-      go : (f : ℕ) → g .places - length p ≡ f → walk g f p ≡ p ∷ flatMap (visit g) (kids g p)
+      go : (f : ℕ) → g .size - length p ≡ f → walk g f p ≡ p ∷ flatMap (visit g) (kids g p)
       go zero e = rw (none-nil (kids g p) (λ c m. omega (arith, simple-length g (kid-simple s m), kid-length p m)))
       go (suc f) e = ap (λ r. p ∷ r) (flat-same (walk g f) (visit g) (kids g p) (λ c m.
-          let h : f ≡ g .places - length c = omega (arith, kid-length p m) in ap (λ k. walk g k c) h))
+          let h : f ≡ g .size - length c = omega (arith, kid-length p m) in ap (λ k. walk g k c) h))
 
   pub visit-cases : {p q : List ℕ} → Simple g p → q among visit g p → (q ≡ p) ⊎ ((c : List ℕ) × c among kids g p × q among visit g c)
   visit-cases {p} s m = ⊎-elim (λ e. inl e) (λ k. inr (flat-mem (visit g) (kids g p) k)) (List·Memᴰ·cases-cons (rw (visit-is s) at m))
@@ -106,9 +106,9 @@ module _ (g : Issuing) where
 
   -- ---- the listing
 
-  module _ (some : 0 < g .places) where
-    pub root : Simple g (0 ∷ [])
-    root = record {
+  module _ (some : 0 < g .size) where
+    pub start-simple : Simple g (0 ∷ [])
+    start-simple = record {
       start = ([], refl);
       inside = λ x m. rw (List·Memᴰ·eq-of-singleton m) some;
       once = sorted-one 0;
@@ -118,16 +118,16 @@ module _ (g : Issuing) where
     complete : (r p : List ℕ) → p among paths g → Simple g (p ++ r) → p ++ r among paths g
     complete [] p m q = rw append-nil m
     complete (i ∷ r) p m q =
-        let s : Simple g p = visit-simple root p m in
+        let s : Simple g p = visit-simple start-simple p m in
         let t : Simple g (snoc p i ++ r) = rw append-assoc q in
         let k : snoc p i among kids g p = mem-kids i s (simple-prefix g (snoc p i) r (concat-ne-nil i p) t) in
-        rw append-assoc at (complete r (snoc p i) (visit-closed root p (snoc p i) m k) t)
+        rw append-assoc at (complete r (snoc p i) (visit-closed start-simple p (snoc p i) m k) t)
 
     pub paths-listing : Listing g (paths g)
     unfolding visit
     paths-listing = record {
-      sorted = walk-sorted (g .places - 1) (0 ∷ []);
-      only = visit-simple root;
+      sorted = walk-sorted (g .size - 1) (0 ∷ []);
+      only = visit-simple start-simple;
       all = λ q s. rw (s .start .1) (complete (s .start .0) (0 ∷ []) (visit-self (0 ∷ [])) (rw (s .start .1) at s));
     }
 
@@ -138,12 +138,12 @@ module _ (g : Issuing) where
   listing-unique l m = lists-unique irrefl trans l m
 
   -- without certificates there is no path
-  pub none-listing : g .places ≡ 0 → Listing g []
+  pub none-listing : g .size ≡ 0 → Listing g []
   none-listing e = record {
     sorted = nil;
     only = λ p m. absurd (List·Memᴰ·not-nil m);
-    all = λ p s. absurd (omega (arith, simple-places g s));
+    all = λ p s. absurd (omega (arith, simple-size g s));
   }
 
   pub listing-exists : (ps : List (List ℕ)) × Listing g ps
-  listing-exists = ⊎-elim (λ e. ([], none-listing e)) (λ some. (paths g, paths-listing some)) (eq-zero-or-pos (g .places))
+  listing-exists = ⊎-elim (λ e. ([], none-listing e)) (λ some. (paths g, paths-listing some)) (eq-zero-or-pos (g .size))

@@ -8,13 +8,13 @@ use native.Mathlib.Omega.{arith}
 use lib.ListN.{length, take, drop, getD, length-drop, take-append-drop, drop-of-length-le}
 use lib.Seq.{getD-drop}
 use Rattle.order.specs.Listing.{_among_, nil}
-use Rattle.order.specs.Paths.{Issuing, Simple, Listing, Rank, Count}
+use Rattle.order.specs.Paths.{Places, Simple, Listing, Rank, Count}
 use Rattle.order.specs.Waiting.{Waiting, After}
 use Rattle.order.specs.Walk.{kids, visit, paths, pop, stack, taken}
 use Rattle.order.proofs.Lists.{lists-unique}
 use Rattle.order.proofs.Order.{irrefl, trans}
 use Rattle.order.proofs.Rank.{rank-at}
-use Rattle.order.proofs.Simple.{simple-places}
+use Rattle.order.proofs.Simple.{simple-size}
 use Rattle.order.proofs.Stack.{stack-simple, stack-rest, stack-waits, taken-is}
 use Rattle.order.proofs.Tree.{visit-is, paths-listing, listing-is, listing-unique, none-listing}
 
@@ -28,14 +28,14 @@ none-waiting ps k h = record {
   all = λ p w. rw (drop-of-length-le ps h) at (w .untaken);
 }
 
-module _ (g : Issuing) (some : 0 < g .places) {ps : List (List ℕ)} (l : Listing g ps) where
+module _ (g : Places) (some : 0 < g .size) {ps : List (List ℕ)} (l : Listing g ps) where
   pub waiting-is : {k : ℕ} {ws : List (List ℕ)} → Waiting ps k ws ↔ (ws ≡ stack g k)
   waiting-is {k} = rw (listing-is g some l) (λ w. lists-unique irrefl trans w (stack-waits g some k), λ e. rw e (stack-waits g some k))
 
   pub waiting-start : Waiting ps 0 ((0 ∷ []) ∷ [])
   waiting-start = waiting-is .1 refl
 
-  -- the first that waits is the next path; its children take its place
+  -- the first that waits is the next path, and its children come in its stead
   pub waiting-step : (k : ℕ) {p : List ℕ} {s : List (List ℕ)} → Waiting ps k (p ∷ s)
       → (k < length ps) × (getD ps k [] ≡ p) × Waiting ps (suc k) (kids g p ++ s)
   unfolding flatMap
@@ -55,38 +55,38 @@ module _ (g : Issuing) (some : 0 < g .places) {ps : List (List ℕ)} (l : Listin
     none-waiting ps k,
   )
 
-  -- what upstream's stack hands out in k steps
+  -- upstream's stack hands out the first k of the listing in k steps
   pub stack-taken : (k : ℕ) → taken g k ≡ take k ps
   stack-taken k = taken-is g some k ∙ ap (take k) (sym (listing-is g some l))
 
 -- ---- after k steps
 
-module _ (g : Issuing) where
+module _ (g : Places) where
   pub after-exists : (k : ℕ) → (ws : List (List ℕ)) × After g k ws
   after-exists k = ⊎-elim
       (λ e. ([], ([], none-listing g e, none-waiting [] k (omega arith))))
       (λ some. (stack g k, (paths g, paths-listing g some, stack-waits g some k)))
-      (eq-zero-or-pos (g .places))
+      (eq-zero-or-pos (g .size))
 
   pub after-unique : {k : ℕ} {ws vs : List (List ℕ)} → After g k ws → After g k vs → ws ≡ vs
   after-unique (ps, l, w) (qs, m, v) = lists-unique irrefl trans w (rw (listing-unique g m l) at v)
 
-  pub after-start : 0 < g .places → After g 0 ((0 ∷ []) ∷ [])
+  pub after-start : 0 < g .size → After g 0 ((0 ∷ []) ∷ [])
   after-start some = (paths g, paths-listing g some, waiting-start g some (paths-listing g some))
 
   -- upstream's stack holds what waits
-  pub stack-after : 0 < g .places → (k : ℕ) → After g k (stack g k)
+  pub stack-after : 0 < g .size → (k : ℕ) → After g k (stack g k)
   stack-after some k = (paths g, paths-listing g some, stack-waits g some k)
 
-  after-places : {ps : List (List ℕ)} {k : ℕ} {p : List ℕ} {s : List (List ℕ)} → Listing g ps → Waiting ps k (p ∷ s) → 0 < g .places
-  after-places {ps} {k} {p} l w =
+  waiting-size : {ps : List (List ℕ)} {k : ℕ} {p : List ℕ} {s : List (List ℕ)} → Listing g ps → Waiting ps k (p ∷ s) → 0 < g .size
+  waiting-size {ps} {k} {p} l w =
       let m : p among take k ps ++ drop k ps = Memᴰ·append-right (take k ps) (w .only p (here refl) .untaken) in
-      simple-places g (l .only p (rw take-append-drop at m))
+      simple-size g (l .only p (rw take-append-drop at m))
 
-  -- step k + 1 takes the first path that waits, the one of rank k + 1; its children take its place
+  -- step k + 1 takes the first path that waits, the one of rank k + 1, and its children come in its stead
   pub after-step : {k : ℕ} {p : List ℕ} {s : List (List ℕ)} → After g k (p ∷ s) → Rank g p (suc k) × After g (suc k) (kids g p ++ s)
   after-step {k} (ps, l, w) =
-      let (h, e, v) = waiting-step g (after-places l w) l k w in
+      let (h, e, v) = waiting-step g (waiting-size l w) l k w in
       (rw e at (rank-at g l k h), (ps, l, v))
 
   -- nothing waits when all are taken, and not before
@@ -97,7 +97,7 @@ module _ (g : Issuing) where
       (ps, l, refl),
       ⊎-elim
           (λ e. rw (listing-unique g l (none-listing g e)) (omega arith))
-          (λ some. waiting-end g some l k .0 w) (eq-zero-or-pos (g .places)),
+          (λ some. waiting-end g some l k .0 w) (eq-zero-or-pos (g .size)),
     ),
     λ (c, (ps, l, e), h). (ps, l, none-waiting ps k (omega arith)),
   )

@@ -7,21 +7,21 @@ use Prim.Native.Nat.{ℕ, suc, _<_}
 use lib.ListN.{length}
 use Rattle.order.specs.Listing.{_among_, Sorted, Lists}
 
--- who issued whom among the certificates at the places 0 .. places - 1: `issued i j` says that the one at place i issued the one at place j
-pub record Issuing : Type 0 where
-  pub places : ℕ
+-- the places 0 .. size - 1, and who issued whom: `issued i j` says that the certificate at place i issued the one at place j
+pub record Places : Type 0 where
+  pub size : ℕ
   pub issued : ℕ → ℕ → Bool
 
 -- each next certificate issued the one before
-abbrev pub Linked : Issuing → List ℕ → Type 0
+abbrev pub Linked : Places → List ℕ → Type 0
 Linked g [] = Unit {0}
 Linked g (x ∷ []) = Unit {0}
 Linked g (x ∷ y ∷ p) = (g .issued y x ≡ true) × Linked g (y ∷ p)
 
 -- a simple path starts at place 0, has no place twice, and each next certificate issued the one before
-pub record Simple (g : Issuing) (p : List ℕ) : Type 0 where
+pub record Simple (g : Places) (p : List ℕ) : Type 0 where
   pub start : (r : List ℕ) × (p ≡ 0 ∷ r)
-  pub inside : (x : ℕ) → x among p → x < g .places
+  pub inside : (x : ℕ) → x among p → x < g .size
   pub once : Sorted _≢_ p
   pub linked : Linked g p
 
@@ -32,13 +32,13 @@ Before [] (y ∷ q) = Unit {0}
 Before (x ∷ p) (y ∷ q) = (y < x) ⊎ ((x ≡ y) × Before p q)
 
 -- ps are the simple paths, in that order
-abbrev pub Listing : Issuing → List (List ℕ) → Type 0
+abbrev pub Listing : Places → List (List ℕ) → Type 0
 Listing g ps = Lists Before (Simple g) ps
 
 -- r is p's rank, from 1: there are r - 1 simple paths before p
-abbrev pub Rank : Issuing → List ℕ → ℕ → Type 0
+abbrev pub Rank : Places → List ℕ → ℕ → Type 0
 Rank g p r = (qs : List (List ℕ)) × Lists Before (λ q. Simple g q × Before q p) qs × (r ≡ suc (length qs))
 
 -- c is the number of simple paths
-abbrev pub Count : Issuing → ℕ → Type 0
+abbrev pub Count : Places → ℕ → Type 0
 Count g c = (ps : List (List ℕ)) × Listing g ps × (c ≡ length ps)

@@ -5,7 +5,7 @@ use mathlib.Core.Path.{_≡_}
 use Prim.Native.Nat.{ℕ}
 use lib.ListN.{take, drop}
 use Rattle.order.specs.Listing.{_among_, Lists}
-use Rattle.order.specs.Paths.{Issuing, Before, Listing}
+use Rattle.order.specs.Paths.{Places, Before, Listing}
 
 -- of the listing ps: p is untaken, and all but its last place is a path that is taken; or p is [0], which has no such path
 pub record Waits (ps : List (List ℕ)) (k : ℕ) (p : List ℕ) : Type 0 where
@@ -17,5 +17,5 @@ abbrev pub Waiting : List (List ℕ) → ℕ → List (List ℕ) → Type 0
 Waiting ps k ws = Lists Before (Waits ps k) ws
 
 -- ws are the paths that wait after k steps, the next one first and the rest in order
-abbrev pub After : Issuing → ℕ → List (List ℕ) → Type 0
+abbrev pub After : Places → ℕ → List (List ℕ) → Type 0
 After g k ws = (ps : List (List ℕ)) × Listing g ps × Waiting ps k ws

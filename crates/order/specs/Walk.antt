@@ -1,11 +1,11 @@
--- The simple paths as a program can follow them: a walk of the tree, and upstream's stack. A reader need not believe this file: no public contract
--- rests on it, and the theorems of proofs/ say that its paths and its stack are those of Paths and Waiting. Assumes nothing.
+-- The simple paths as a program can follow them: a walk of the tree, and upstream's stack. A reader need not
+-- believe this file: the theorems of proofs/ say that its paths and its stack are those of Paths and Waiting. Assumes nothing.
 use mathlib.Core.Bool.{Bool, true, false, not, _&&_, _||_}
 use mathlib.Core.List.{List, [], _∷_, _++_, map, flatMap}
 use Prim.Native.Nat.{ℕ, zero, suc, _-_}
 use lib.Dec.{eqb}
 use lib.ListN.{length}
-use Rattle.order.specs.Paths.{Issuing}
+use Rattle.order.specs.Paths.{Places}
 
 abbrev pub put : {A : Type 0} → Bool → A → List A → List A
 put true x xs = x ∷ xs
@@ -21,10 +21,10 @@ abbrev pub down : ℕ → List ℕ
 down zero = []
 down (suc n) = n ∷ down n
 
--- is place i in the path?
-abbrev pub has : ℕ → List ℕ → Bool
-has i [] = false
-has i (x ∷ p) = eqb i x || has i p
+-- place i is used by a path
+abbrev pub used : ℕ → List ℕ → Bool
+used i [] = false
+used i (x ∷ p) = eqb i x || used i p
 
 -- the last place of a path, d for the empty one
 abbrev pub last : ℕ → List ℕ → ℕ
@@ -36,33 +36,33 @@ abbrev pub snoc : List ℕ → ℕ → List ℕ
 snoc p i = p ++ i ∷ []
 
 -- the places by which p can go on, the largest first
-unfoldable pub next : Issuing → List ℕ → List ℕ
-next g p = keep (λ i. not (has i p) && g .issued i (last 0 p)) (down (g .places))
+unfoldable pub next : Places → List ℕ → List ℕ
+next g p = keep (λ i. not (used i p) && g .issued i (last 0 p)) (down (g .size))
 
 -- p so extended
-unfoldable pub kids : Issuing → List ℕ → List (List ℕ)
+unfoldable pub kids : Places → List ℕ → List (List ℕ)
 kids g p = map (snoc p) (next g p)
 
 -- p and all that goes on from it, down to f more places
-unfoldable pub walk : Issuing → ℕ → List ℕ → List (List ℕ)
+unfoldable pub walk : Places → ℕ → List ℕ → List (List ℕ)
 walk g zero p = p ∷ []
 walk g (suc f) p = p ∷ flatMap (walk g f) (kids g p)
 
 -- p and all that goes on from it
-unfoldable pub visit : Issuing → List ℕ → List (List ℕ)
-visit g p = walk g (g .places - length p) p
+unfoldable pub visit : Places → List ℕ → List (List ℕ)
+visit g p = walk g (g .size - length p) p
 
 -- all that goes on from [0]
-abbrev pub paths : Issuing → List (List ℕ)
+abbrev pub paths : Places → List (List ℕ)
 paths g = visit g (0 ∷ [])
 
 -- a step on the stack: its top is taken off, and the top's children are put on
-abbrev pub pop : Issuing → List (List ℕ) → List (List ℕ)
+abbrev pub pop : Places → List (List ℕ) → List (List ℕ)
 pop g [] = []
 pop g (p ∷ s) = kids g p ++ s
 
 -- the stack after k steps
-abbrev pub stack : Issuing → ℕ → List (List ℕ)
+abbrev pub stack : Places → ℕ → List (List ℕ)
 stack g zero = (0 ∷ []) ∷ []
 stack g (suc k) = pop g (stack g k)
 
@@ -72,6 +72,6 @@ top [] = []
 top (p ∷ s) = p ∷ []
 
 -- what the stack handed out in k steps, the first one first
-abbrev pub taken : Issuing → ℕ → List (List ℕ)
+abbrev pub taken : Places → ℕ → List (List ℕ)
 taken g zero = []
 taken g (suc k) = taken g k ++ top (stack g k)

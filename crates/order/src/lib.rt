@@ -1,5 +1,5 @@
-// Simple paths, their order, what waits, and how many slots that needs: definitions in specs/, theorems in proofs/, and the printed table. It finds
-// no path; the search stands on it.
+// Simple paths, their order, a path's rank, and what waits after k steps: definitions in specs/ and theorems in proofs/. The one
+// function answers how many slots the waiting paths need; finding a path is left to the search.
 ghost use mathlib.Core.Path.{_≡_};
 ghost use Rattle.order.specs.Slots.{slotsOf};
 

@@ -16,12 +16,14 @@ use Rattle.order.proofs.slots.Tie as tie
 abbrev right : ℕ → ℕ → Bool
 right n x = eqb x (slotsOf n)
 
+-- where each entry is right, the entry at place n is the slots for n
 rule : (xs : List ℕ) (n : ℕ) → T (every right 0 xs) → n < length xs → getD xs n 0 ≡ slotsOf n
 rule xs n t h = eqb→eq (getD xs n 0) (slotsOf n) (at right xs t n h)
 
 array-read-result : tie.Need-array-read-result
 array-read-result c = search needs
 
+-- the test over the table in the code computes to the unit type, which t proves
 returns : tie.Need-returns
 returns c = let t : Unit {0} = tt in let h : c .before .args .n < 17 = search needs in rw rule
 
