@@ -10,4 +10,5 @@ pub mod Records
 pub mod Sections
 pub mod Signed
 pub mod Standing
+pub mod Stops
 pub mod Two

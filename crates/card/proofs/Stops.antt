@@ -1,0 +1,233 @@
+-- Any bytes at all get their content or one of 4 to 9: a file that can't be read stops at one of these (`file-stops`), so that what
+-- is answered as read was read (`answered-read`). Assumes nothing.
+use Prim.Native.Nat.{ℕ, zero, suc, _+_, _*_, _≤_}
+use mathlib.Core.Path.{_≡_, refl, sym, ap, _∙_}
+use mathlib.Core.Bool.{Bool, true, false, cond, _&&_}
+use mathlib.Core.List.{List}
+use native.Mathlib.Omega.{arith}
+use lib.Dec.{eqb, leb, ltb}
+use lib.ListN.{length, getD}
+use Rattle.fields.specs.Fields.{Parsed, got, stop, after, countP, spanP, stringP, bigP, many, countedP, whole}
+use Rattle.names.specs.Names.{attrP, rdnP, nameP}
+use Rattle.record.specs.Record.{flag, paired, byteP, flagsP, datesP, headP, stringsP, namesP, optionP, keyIdsP, pathLengthP, usageP, dnsNameP, rowP, extensionsP, recordP}
+use Rattle.card.specs.Card.{editionP, rootsP, bundleP, verdictP, verdictsP, timesP, purposeP, taskP, cardP, fileP}
+use Rattle.card.specs.Answers.{numberOf, told, answer}
+use Rattle.card.specs.declared.Card.{Card}
+use Rattle.card.specs.declared.Outcome.the-variants.{Read}
+use Rattle.card.specs.declared.Reading.{Reading}
+
+-- where reading stops, it is at one of 4 to 9
+pub record Stops {A : Type 0} (x : Parsed A) : Type 0 where
+  pub at : (r : ℕ) → x ≡ stop r → (4 ≤ r) × (r ≤ 9)
+
+module _ {A : Type 0} where
+  goes : (a : A) (e : ℕ) → Stops (got a e)
+  goes a e = record { at = λ r h. let z : _≡_ {A = ℕ} 0 1 = cc in absurd (omega arith) }
+
+  stops : (n : ℕ) → 4 ≤ n → n ≤ 9 → Stops {A = A} (stop n)
+  stops n l h = record { at = λ r e. let z : n ≡ r = cc in (omega arith, omega arith) }
+
+  judged : (b : Bool) {x y : Parsed A} → Stops x → Stops y → Stops (cond b x y)
+  judged true s t = s
+  judged false s t = t
+
+module _ {A B : Type 0} where
+  then : (x : Parsed A) {f : A → ℕ → Parsed B} → Stops x → ((a : A) (e : ℕ) → Stops (f a e)) → Stops (after x f)
+  then (got a e) s t = t a e
+  then (stop r) s t = record { at = λ q h. let z : r ≡ q = cc in s .at q (ap stop z) }
+
+-- ---- the fields
+
+bad : {A : Type 0} → Stops {A = A} (stop 7)
+bad = stops 7 (omega arith) (omega arith)
+
+short : {A : Type 0} → Stops {A = A} (stop 6)
+short = stops 6 (omega arith) (omega arith)
+
+wrong : {A : Type 0} → Stops {A = A} (stop 8)
+wrong = stops 8 (omega arith) (omega arith)
+
+module _ (s : List ℕ) where
+  count : (least most at : ℕ) → Stops (countP least most s at)
+  unfolding countP
+  count least most at =
+      judged (ltb at (length s)) (judged (leb least (getD s at 0) && leb (getD s at 0) most) (goes _ _) bad) short
+
+  span : (least most at : ℕ) → Stops (spanP least most s at)
+  unfolding spanP
+  span least most at = then (countP least most s at) (count least most at) (λ n e. judged (leb (e + n) (length s)) (goes _ _) short)
+
+  string : (least most at : ℕ) → Stops (stringP least most s at)
+  unfolding stringP
+  string least most at = then (spanP least most s at) (span least most at) (λ p e. goes _ _)
+
+  big : (width at : ℕ) → Stops (bigP width s at)
+  unfolding bigP
+  big width at = judged (leb (at + width) (length s)) (goes _ _) short
+
+  module _ {A : Type 0} (p : List ℕ → ℕ → Parsed A) (each : (at : ℕ) → Stops (p s at)) where
+    row : (n at : ℕ) → Stops (many p n s at)
+    unfolding many
+    row zero at = goes _ _
+    row (suc n) at = then (p s at) (each at) (λ a e. then (many p n s e) (row n e) (λ l f. goes _ _))
+
+    counted : (least most at : ℕ) → Stops (countedP least most p s at)
+    unfolding countedP
+    counted least most at = then (countP least most s at) (count least most at) (λ n e. row n e)
+
+  -- ---- names
+
+  attr : (at : ℕ) → Stops (attrP s at)
+  unfolding attrP
+  attr at = then (stringP 1 16 s at) (string 1 16 at) (λ o e. then (stringP 0 255 s e) (string 0 255 e) (λ v f. goes _ _))
+
+  rdn : (at : ℕ) → Stops (rdnP s at)
+  unfolding rdnP
+  rdn at = counted attrP attr 1 4 at
+
+  name : (at : ℕ) → Stops (nameP s at)
+  unfolding nameP
+  name at = counted rdnP rdn 0 16 at
+
+  -- ---- a record
+
+  byte : (at : ℕ) → Stops (byteP s at)
+  unfolding byteP
+  byte at = count 0 255 at
+
+  flags : (at : ℕ) → Stops (flagsP s at)
+  unfolding flagsP
+  flags at = then (byteP s at) (byte at) (λ v e. then (byteP s e) (byte e) (λ f g. judged (paired f) (goes _ _) wrong))
+
+  dates : (at : ℕ) → Stops (datesP s at)
+  unfolding datesP
+  dates at = then (bigP 8 s at) (big 8 at) (λ b e. then (bigP 8 s e) (big 8 e) (λ a f. goes _ _))
+
+  head : (at : ℕ) → Stops (headP s at)
+  unfolding headP
+  head at = then (flagsP s at) (flags at) (λ v e. then (datesP s e) (dates e) (λ d f. goes _ _))
+
+  strings : (at : ℕ) → Stops (stringsP s at)
+  unfolding stringsP
+  strings at =
+      then (spanP 1 20 s at) (span 1 20 at) (λ a e. then (spanP 1 32 s e) (span 1 32 e) (λ b f. then (spanP 1 32 s f) (span 1 32 f) (λ c g. goes _ _)))
+
+  names : (at : ℕ) → Stops (namesP s at)
+  unfolding namesP
+  names at = then (nameP s at) (name at) (λ _ e. then (nameP s e) (name e) (λ _ f. goes _ _))
+
+  option : (b : Bool) (most at : ℕ) → Stops (optionP b most s at)
+  unfolding optionP
+  option b most at = judged b (span 1 most at) (goes _ _)
+
+  key-ids : (f at : ℕ) → Stops (keyIdsP f s at)
+  unfolding keyIdsP
+  key-ids f at =
+      then (optionP (flag 1 f) 64 s at) (option (flag 1 f) 64 at) (λ a e.
+      then (optionP (flag 2 f) 20 s e) (option (flag 2 f) 20 e) (λ b g.
+      then (optionP (flag 4 f) 64 s g) (option (flag 4 f) 64 g) (λ c h. goes _ _)))
+
+  path-length : (f at : ℕ) → Stops (pathLengthP f s at)
+  unfolding pathLengthP
+  path-length f at = judged (flag 16 f) (byte at) (goes _ _)
+
+  usage : (at : ℕ) → Stops (usageP s at)
+  unfolding usageP
+  usage at = then (byteP s at) (byte at) (λ u e. judged (leb u 7) (goes _ _) wrong)
+
+  dns-name : (at : ℕ) → Stops (dnsNameP s at)
+  unfolding dnsNameP
+  dns-name at = string 1 253 at
+
+  listed : {A : Type 0} (most : ℕ) (p : List ℕ → ℕ → Parsed A) → ((at : ℕ) → Stops (p s at)) → (at : ℕ) → Stops (rowP most p s at)
+  unfolding rowP
+  listed most p each at = then (countP 0 most s at) (count 0 most at) (λ n e. then (many p n s e) (row p each n e) (λ _ f. goes _ _))
+
+  extensions : (f at : ℕ) → Stops (extensionsP f s at)
+  unfolding extensionsP
+  extensions f at =
+      then (keyIdsP f s at) (key-ids f at) (λ k e.
+      then (pathLengthP f s e) (path-length f e) (λ l g.
+      then (rowP 8 usageP s g) (listed 8 usageP usage g) (λ u h.
+      then (rowP 32 dnsNameP s h) (listed 32 dnsNameP dns-name h) (λ d i. goes _ _))))
+
+  a-record : (at : ℕ) → Stops (recordP s at)
+  unfolding recordP
+  a-record at =
+      then (headP s at) (head at) (λ h e.
+      then (stringsP s e) (strings e) (λ t f.
+      then (namesP s f) (names f) (λ n g.
+      then (extensionsP (h .flags) s g) (extensions (h .flags) g) (λ x i. goes _ _))))
+
+  -- ---- the file
+
+  edition : (at : ℕ) → Stops (editionP s at)
+  unfolding editionP
+  edition at = then (byteP s at) (byte at) (λ n e. judged (eqb n 1) (goes _ _) (stops 4 (omega arith) (omega arith)))
+
+  roots : (at : ℕ) → Stops (rootsP s at)
+  unfolding rootsP
+  roots at = then (countedP 0 32 recordP s at) (counted recordP a-record 0 32 at) (λ l e. goes _ _)
+
+  bundle : (at : ℕ) → Stops (bundleP s at)
+  unfolding bundleP
+  bundle at = then (countedP 0 16 recordP s at) (counted recordP a-record 0 16 at) (λ l e. goes _ _)
+
+  verdict : (at : ℕ) → Stops (verdictP s at)
+  unfolding verdictP
+  verdict at = then (byteP s at) (byte at) (λ v e. judged (leb v 1) (goes _ _) wrong)
+
+  verdicts : (r b at : ℕ) → Stops (verdictsP r b s at)
+  unfolding verdictsP
+  verdicts r b at =
+      then (bigP 2 s at) (big 2 at) (λ n e.
+      judged (eqb n ((r + b) * b)) (then (many verdictP n s e) (row verdictP verdict n e) (λ _ f. goes _ _)) bad)
+
+  times : (at : ℕ) → Stops (timesP s at)
+  unfolding timesP
+  times at =
+      then (countP 1 1 s at) (count 1 1 at) (λ _ e. then (bigP 8 s e) (big 8 e) (λ n f. then (bigP 8 s f) (big 8 f) (λ b g. goes _ _)))
+
+  purpose : (at : ℕ) → Stops (purposeP s at)
+  unfolding purposeP
+  purpose at = then (byteP s at) (byte at) (λ p e. judged (eqb p 0) (goes _ _) wrong)
+
+  task : (at : ℕ) → Stops (taskP s at)
+  unfolding taskP
+  task at =
+      then (timesP s at) (times at) (λ t e. then (purposeP s e) (purpose e) (λ _ f. then (spanP 0 253 s f) (span 0 253 f) (λ h g. goes _ _)))
+
+  card : (at : ℕ) → Stops (cardP s at)
+  unfolding cardP
+  card at =
+      then (editionP s at) (edition at) (λ _ e.
+      then (rootsP s e) (roots e) (λ r f.
+      then (bundleP s f) (bundle f) (λ b g.
+      then (verdictsP (r .count) (b .count) s g) (verdicts (r .count) (b .count) g) (λ v h.
+      then (taskP s h) (task h) (λ t i. goes _ _)))))
+
+  pub file-stops : Stops (fileP s)
+  unfolding fileP whole
+  file-stops =
+      judged (leb (length s) 65535)
+      (then (cardP s 0) (card 0) (λ c e. judged (ltb e (length s)) (stops 9 (omega arith) (omega arith)) (goes _ _)))
+      (stops 5 (omega arith) (omega arith))
+
+-- ---- what is answered as read
+
+-- a card was read from the file
+pub record WasRead (s : List ℕ) (c : Card) : Type 0 where
+  pub end : ℕ
+  pub is : fileP s ≡ got c end
+
+pub answered-read : (s : List ℕ) (r : Reading) → told r ≡ answer (fileP s) → r .outcome ≡ Read → WasRead s (r .card)
+answered-read s r h o = by-file (fileP s) refl h
+  where
+    by-file : (x : Parsed Card) → fileP s ≡ x → told r ≡ answer x → WasRead s (r .card)
+    by-file (got c e) k t =
+        let d : c ≡ r .card = sym (ap (λ (p : ℕ × Card). p .1) t) in
+        record { end = e; is = k ∙ ap (λ (c : Card). got c e) d }
+    by-file (stop n) k t =
+        let z : 0 ≡ n = ap numberOf (sym o) ∙ ap (λ (p : ℕ × Card). p .0) t in
+        let f = file-stops s .at n k in
+        absurd (omega arith)
