@@ -1,4 +1,5 @@
 // A case answered by its reply (say.rt). How many fields it has tells its form; its question is looked up by name.
+use crate::believe;
 use crate::bytes::unescape;
 use crate::lines::count;
 use crate::lines::part;
@@ -44,14 +45,23 @@ fn ask(line: &[u8], a: &[u8], b: &[u8], c: &[u8], d: &[u8]) {
     }
 }
 
-// normalize_string|ROOM|STRING, match_name|PATTERN|NAME and ip_addr_in_range|RANGE|ADDRESS
+// normalize_string|ROOM|STRING, match_name|PATTERN|NAME, ip_addr_in_range|RANGE|ADDRESS and lowest_root|PATH|CARD
 fn two(label: &[u8], question: &[u8], a: &[u8], b: &[u8]) {
-    match place(b"normalize_string|match_name|ip_addr_in_range|", question) {
+    match question_place(question) {
         0 => normal_form(label, a, b),
         1 => say::reply(label, say::yes_no(match_name(a, b))),
         2 => say::reply(label, say::yes_no(ip_addr_in_range(a, b))),
+        3 => believe::lowest(label, a, b),
         _ => say::reply(label, UNKNOWN),
     }
+}
+
+// The place of a question among the arms above; 4 where it is none.
+fn question_place(question: &[u8]) -> usize {
+    place(
+        b"normalize_string|match_name|ip_addr_in_range|lowest_root|",
+        question,
+    )
 }
 
 fn normal_form(label: &[u8], number: &[u8], s: &[u8]) {

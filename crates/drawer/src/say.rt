@@ -2,6 +2,7 @@
 use crate::lines::part;
 use libc::STDOUT_FILENO;
 use names::Related;
+use policy::Top;
 use text::Normalized;
 
 // A reply is a number: 0 is no, 1 is yes, a fault has its own up to 10, and this one is that there is no such question.
@@ -38,6 +39,19 @@ pub fn normalised(label: &[u8], reply: Normalized, room: &[u8; 8]) {
     }
     put(b", room: ");
     put(room);
+    put(b"\n");
+}
+
+// The root above a path, or that there is none.
+pub fn top(label: &[u8], top: Top) {
+    put(label);
+    match top {
+        Top::Root(place) => {
+            put(b": root ");
+            io::print_decimal(STDOUT_FILENO, place.0 as u64);
+        }
+        Top::None => put(b": no root"),
+    }
     put(b"\n");
 }
 
