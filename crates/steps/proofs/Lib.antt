@@ -1,0 +1,15 @@
+pub mod Cleared
+pub mod Ends
+pub mod Examples
+pub mod Exists
+pub mod Faults
+pub mod Grow
+pub mod Least
+pub mod Lists
+pub mod Marks
+pub mod Paths
+pub mod Shown
+pub mod Stack
+pub mod Turn
+pub mod Unique
+pub mod Verdict

@@ -1,0 +1,121 @@
+-- At most one outcome settles a search (`settles-unique`), a budget that covers all paths brings a yes or a no (`covers`), and what the
+-- two public functions must answer and leave is one answer and one room (`paused-one`, `search-one`). Assumes nothing.
+use mathlib.Core.List.{List}
+use mathlib.Core.Logic.{⊎-elim}
+use mathlib.Core.Path.{_≡_, refl, sym, ap, ap₂, _∙_}
+use Prim.Native.Nat.{ℕ, zero, suc, _≤_, zero-le, suc-le-suc}
+use native.Mathlib.Nat.{le-antisymm}
+use native.Mathlib.Omega.{arith}
+use lib.ListN.{length}
+use Rattle.issuing.specs.declared.Issuing.{Issuing}
+use Rattle.policy.specs.declared.judged.Judged.{Judged}
+use Rattle.order.specs.Paths.{Places, Count}
+use Rattle.order.proofs.Order.{same-or-before}
+use Rattle.order.proofs.Rank.{rank-unique, count-unique}
+use Rattle.order.proofs.Waiting.{after-unique}
+use Rattle.steps.specs.declared.Reply.{Reply}
+use Rattle.steps.specs.declared.Reply.the-variants as reply
+use Rattle.steps.specs.declared.Path.{Path}
+use Rattle.steps.specs.declared.Answer.{Answer}
+use Rattle.steps.specs.Answer.{Told, told, saying, shown, pathShown, Tells, Paused, Searched, Answered, placesOf, rootsOf, fault}
+use Rattle.steps.specs.Room.{holding}
+use Rattle.steps.specs.Settles.{Roots, Accepted, Outcome, accepted, refused, exhausted, Settles}
+
+module _ (g : Places) where
+  module _ (w : Roots) (k : ℕ) where
+    accepted-unique : {p q : List ℕ} {r i s t : ℕ} → Accepted g w k p r s → Accepted g w k q i t → accepted p r s ≡ accepted q i t
+    accepted-unique {p} {q} {r} {i} {s} {t} a b =
+        let e : p ≡ q = ⊎-elim (λ e. e)
+        (⊎-elim (λ f. absurd (b .first p (a .simple) f (r, a .reaches))) (λ f. absurd (a .first q (b .simple) f (i, b .reaches))))
+        (same-or-before p q) in
+        let a′ : Accepted g w k q r s = rw e at a in
+        let f : r ≡ i = le-antisymm (a′ .lowest i (b .reaches)) (b .lowest r (a′ .reaches)) in
+        let h : s ≡ t = rank-unique g q (a′ .rank) (b .rank) in
+        rw (e, f, h)
+
+    -- a budget that covers all paths is never exhausted
+    pub covers : {c : ℕ} → Count g c → c ≤ k → (s : ℕ) → ¬ Settles g w k (exhausted s)
+    covers n h s x = let (d, m, l) = x .more in omega (arith, count-unique g n m)
+
+    pub settles-unique : (o u : Outcome) → Settles g w k o → Settles g w k u → o ≡ u
+    settles-unique (accepted p r s) (accepted q i t) a b = accepted-unique a b
+    settles-unique (accepted p r s) (refused t) a b = absurd (b .none p (a .simple) (r, a .reaches))
+    settles-unique (accepted p r s) (exhausted t) a b = absurd (b .none p s (a .simple) (a .rank) (a .covered) (r, a .reaches))
+    settles-unique (refused s) (accepted q i t) a b = absurd (a .none q (b .simple) (i, b .reaches))
+    settles-unique (refused s) (refused t) a b = ap refused (count-unique g (a .all) (b .all))
+    settles-unique (refused s) (exhausted t) a b = absurd (covers (a .all) (a .covered) t b)
+    settles-unique (exhausted s) (accepted q i t) a b = absurd (a .none q t (b .simple) (b .rank) (b .covered) (i, b .reaches))
+    settles-unique (exhausted s) (refused t) a b = absurd (covers (b .all) (b .covered) s a)
+    settles-unique (exhausted s) (exhausted t) a b = ap exhausted (a .spent ∙ sym (b .spent))
+
+-- ---- what the public functions answer
+
+-- a reply, from what it says
+abbrev reply-of : ℕ → ℕ → ℕ → Reply
+reply-of zero r s = reply.Accepted (record { 0 = r }) s
+reply-of (suc zero) r s = reply.Refused s
+reply-of (suc (suc zero)) r s = reply.Exhausted s
+reply-of (suc (suc (suc zero))) r s = reply.EmptyChain
+reply-of (suc (suc (suc (suc n)))) r s = reply.NoRoom
+
+abbrev said : Told → Reply
+said t = reply-of (t .number) (t .root) (t .steps)
+
+said-told : (r : Reply) → said (told r) ≡ r
+said-told (reply.Accepted r s) = refl
+said-told (reply.Refused s) = refl
+said-told (reply.Exhausted s) = refl
+said-told reply.EmptyChain = refl
+said-told reply.NoRoom = refl
+
+-- two replies that say the same are the same
+pub told-one : (r q : Reply) → told r ≡ told q → r ≡ q
+told-one r q e = sym (said-told r) ∙ ap said e ∙ said-told q
+
+-- two answers to one question: their replies, paths and rooms are equal
+pub record Same (a b : Answer) (after later : List ℕ) : Type 0 where
+  pub answer : a ≡ b
+  pub room : after ≡ later
+
+answer-one : (a b : Answer) → told (a .reply) ≡ told (b .reply) → a .path ≡ b .path → a ≡ b
+answer-one a b e f = ap₂ (λ (r : Reply) (p : Path). record { reply = r; path = p }) (told-one (a .reply) (b .reply) e) f
+
+module _ {g : Places} {w : Roots} {k : ℕ} {a b : Answer} where
+  told-unique : {o u : Outcome} → Tells g w k a o → Tells g w k b u → (o ≡ u) × (a ≡ b)
+  told-unique {o} {u} x y =
+      let e : o ≡ u = settles-unique g w k o u (x .settled) (y .settled) in
+      (e, answer-one a b (x .says ∙ ap saying e ∙ sym (y .says)) (x .shows ∙ ap (λ v. pathShown (shown v)) e ∙ sym (y .shows)))
+
+  pub paused-unique : {before after later : List ℕ} → Paused g w k before after a → Paused g w k before later b → Same a b after later
+  paused-unique {before} x y =
+      let (e, f) = told-unique (x .tells) (y .tells) in
+      let v : x .holds .waiting ≡ y .holds .waiting = after-unique g (rw e at (x .holds .order)) (y .holds .order) in
+      record { answer = f; room = x .holds .room ∙ ap (λ ws. holding (g .size) ws before) v ∙ sym (y .holds .room) }
+
+  pub searched-unique : {before after later : List ℕ} → Searched g w k before after a → Searched g w k before later b → Same a b after later
+  searched-unique x y =
+      let (e, f) = told-unique (x .tells) (y .tells) in
+      record { answer = f; room = x .clear ∙ sym (y .clear) }
+
+module _ {before after later : List ℕ} {a b : Answer} {P Q : Type 0} (same : P → Q → Same a b after later) where
+  pub answered-unique : (e : ℕ) → Answered P e before after a → Answered Q e before later b → Same a b after later
+  answered-unique zero x y = same (x .runs refl) (y .runs refl)
+  answered-unique (suc e) x y =
+      let (f, h, i) = x .stops (suc-le-suc zero-le) in
+      let (f′, h′, i′) = y .stops (suc-le-suc zero-le) in
+      record { answer = answer-one a b (f ∙ sym f′) (h ∙ sym h′); room = i ∙ sym i′ }
+
+-- ---- the two functions
+
+module _ (i : Issuing) (j : Judged) (n budget : ℕ) (before : List ℕ) {after later : List ℕ} {a b : Answer} where
+  -- what `paused` must answer and leave is one answer and one room
+  pub paused-one : Answered (Paused (placesOf i n) (rootsOf i j) budget before after a) (fault n (length before)) before after a
+      → Answered (Paused (placesOf i n) (rootsOf i j) budget before later b) (fault n (length before)) before later b
+      → Same a b after later
+  paused-one x y = answered-unique paused-unique (fault n (length before)) x y
+
+  -- and so for `search`
+  pub search-one : Answered (Searched (placesOf i n) (rootsOf i j) budget before after a) (fault n (length before)) before after a
+      → Answered (Searched (placesOf i n) (rootsOf i j) budget before later b) (fault n (length before)) before later b
+      → Same a b after later
+  search-one x y = answered-unique searched-unique (fault n (length before)) x y

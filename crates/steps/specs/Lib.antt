@@ -1,0 +1,5 @@
+pub mod Settles
+pub mod Slots
+pub mod Room
+pub mod Answer
+pub mod Parts

@@ -1,0 +1,82 @@
+// The lent room: bytes in slots, each a length and then so many places.
+use crate::Path;
+use card::Bundle;
+use card::BundlePlace;
+ghost use mathlib.Core.List.{_++_};
+ghost use mathlib.Core.Path.{_≡_};
+ghost use Prim.Native.Nat.{_+_, _-_, _*_, _≤_};
+ghost use lib.ListN.{length, take, drop, replicate};
+ghost use lib.Seq.{paste};
+ghost use Rattle.steps.specs.Answer.{pathShown};
+ghost use Rattle.steps.specs.Slots.{slotOf, pathOf};
+
+// A slot: a length, then as many places as a path can have.
+pub(crate) struct Slot {}
+
+impl Slot {
+    pub const BYTES: usize = 17;
+}
+
+// A byte as a number that can be an index.
+pub(crate) fn wide(x: u8) -> usize
+    ensures { λ r. ⌜ r ≡ x ⌝ }
+{
+    x as usize
+}
+
+// The bytes of slot t.
+pub(crate) fn read_slot(room: &[u8], t: usize) -> [u8; Slot::BYTES]
+    requires { ⌜ 17 * t + 17 ≤ length (now room) ⌝ }
+    ensures { λ r. ⌜ r ≡ take 17 (drop (17 * t) (now (room .entry))) ⌝ }
+{
+    let at = Slot::BYTES * t;
+    let mut s = [0u8; Slot::BYTES];
+    let mut j = 0;
+    while j < Slot::BYTES {
+        s[j] = room[at + j];
+        j += 1;
+    }
+    s
+}
+
+// Puts s in slot t.
+pub(crate) fn write_slot(room: &mut [u8], t: usize, s: [u8; Slot::BYTES])
+    requires { ⌜ 17 * t + 17 ≤ length (now room) ⌝ }
+    ensures { λ _. ⌜ now (room .exit) ≡ paste (now (room .entry)) (17 * t) s 17 ⌝ }
+{
+    let at = Slot::BYTES * t;
+    let mut j = 0;
+    while j < Slot::BYTES {
+        room[at + j] = s[j];
+        j += 1;
+    }
+}
+
+// Zeros from byte a to byte e.
+pub(crate) fn zero_bytes(room: &mut [u8], a: usize, e: usize)
+    requires { ⌜ (a ≤ e) × (e ≤ length (now room)) ⌝ }
+    ensures { λ _. ⌜ now (room .exit) ≡ take a (now (room .entry)) ++ (replicate (e - a) 0 ++ drop e (now (room .entry))) ⌝ }
+{
+    let mut j = a;
+    while j < e {
+        room[j] = 0;
+        j += 1;
+    }
+}
+
+// The path that s holds.
+pub(crate) fn path_in(s: [u8; Slot::BYTES]) -> Path
+    requires { ⌜ s ≡ slotOf (pathOf s) ⌝ }
+    ensures { λ r. ⌜ r ≡ pathShown (pathOf s) ⌝ }
+{
+    let mut places = [BundlePlace(0); Bundle::MOST];
+    let mut j = 0;
+    while j < Bundle::MOST {
+        places[j] = BundlePlace(s[j + 1]);
+        j += 1;
+    }
+    Path {
+        length: s[0],
+        places,
+    }
+}
