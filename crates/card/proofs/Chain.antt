@@ -16,6 +16,7 @@ use Rattle.card.specs.declared.bundle.Bundle.{Bundle}
 use Rattle.card.specs.declared.verdicts.Verdicts.{Verdicts}
 use Rattle.card.specs.declared.task.Task.{Task}
 use Rattle.card.specs.declared.Card.{Card}
+use Rattle.card.proofs.Held.{as-told}
 
 -- what comes after a section, and after that, sees the value that was held
 module _ {A B C : Type 0} (f : A → ℕ → Parsed B) (g : B → ℕ → Parsed C) where
@@ -53,11 +54,6 @@ module _ {A : Type 0} (a : A) where
   end-seen (got u e) n = judged-seen (ltb e n) e
   end-seen (stop r) n = refl
 
-  held-got : (p : Past) → held p a ≡ after (passed p) (λ _ e. got a e)
-  unfolding held
-  held-got (Got e) = refl
-  held-got (Stop r) = refl
-
 -- what comes after each section, and the end
 module _ (s : List ℕ) where
   abbrev with-task : Roots → Bundle → Verdicts → Task → ℕ → Parsed Card
@@ -93,7 +89,7 @@ module _ (s : List ℕ) (begun after-roots after-bundle after-verdicts after-tas
         → held end whole-card ≡ fileP s
     unfolding fileP whole cardP
     chained edition roots bundle verdicts task over =
-        held-got whole-card end
+        as-told end whole-card
         ∙ ap (λ x. after x (λ _ e. got whole-card e)) over
         ∙ end-seen whole-card (passed after-task) (length s)
         ∙ sym (next-section (with-task s r b v) (ended s) after-verdicts after-task t (taskP s) task)

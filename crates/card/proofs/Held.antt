@@ -12,7 +12,8 @@ pub after-end : {A B : Type 0} (x : Parsed A) (f : ℕ → Parsed B) → after x
 after-end (got a e) f = refl
 after-end (stop r) f = refl
 
-as-told : {B : Type 0} (p : Past) (b : B) → held p b ≡ after (passed p) (λ _ e. got b e)
+-- a value beside the place past a thing
+pub as-told : {B : Type 0} (p : Past) (b : B) → held p b ≡ after (passed p) (λ _ e. got b e)
 unfolding held
 as-told (Got e) b = refl
 as-told (Stop f) b = refl
