@@ -44,7 +44,7 @@ seek-none : (test : ℕ → Bool) (n : ℕ) → ((i : ℕ) → test i ≡ false)
 seek-none test n h =
     seek-is test 0 n n (record { from = omega arith; within = omega arith; below = λ i _ _. h i; passes = λ l. absurd (omega arith) })
 
-last-inside : (n p : ℕ) (l : List ℕ) → p < n → Inside n l → lastOf p l < n
+pub last-inside : (n p : ℕ) (l : List ℕ) → p < n → Inside n l → lastOf p l < n
 last-inside n p [] h k = h
 last-inside n p (q ∷ l) h k = last-inside n q l (k .0) (k .1)
 
@@ -80,7 +80,7 @@ module _ (s : List ℕ) (c : Card) (e : ℕ) (t : CardRead s c e) where
     issuers = getD (rootRows s (c .roots) (c .bundle) (c .verdicts)) last 0
 
     -- a root by which the path is judged right is one by which it qualifies
-    root-judged : (r : ℕ) → between && (has r issuers && above r) ≡ qualifies content (0 ∷ l) r
+    pub root-judged : (r : ℕ) → between && (has r issuers && above r) ≡ qualifies content (0 ∷ l) r
     unfolding contentOf bySeat
     root-judged r = ap (λ b. between && (b && above r)) (root-row-agrees s c e t r last) ∙ by-issuer (issued content (root r) last) refl
       where
@@ -113,7 +113,7 @@ module _ (s : List ℕ) (c : Card) (e : ℕ) (t : CardRead s c e) where
         rw (lt-ltb last 16 low) (by-between between refl)
 
   -- a root by which a path qualifies is there
-  qualifies-there : (p : List ℕ) (r : ℕ) → c .roots .count ≤ r → qualifies content p r ≡ false
+  pub qualifies-there : (p : List ℕ) (r : ℕ) → c .roots .count ≤ r → qualifies content p r ≡ false
   qualifies-there [] r h = refl
   qualifies-there (p ∷ l) r h = ap (λ b. b && policy (content .now) (content .host) (chainOf content p l r)) (not-issued (issued content (root r) (lastOf p l)) refl)
     where

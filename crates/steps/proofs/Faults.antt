@@ -52,4 +52,4 @@ module _ {P : Type 0} {before after : List ℕ} {a : Answer} {e : ℕ} where
   answered-runs z p = record { runs = λ q. p; stops = λ h. absurd (omega arith) }
 
   pub answered-stops : 0 < e → told (a .reply) ≡ tells e 0 0 → a .path ≡ pathShown [] → after ≡ before → Answered P e before after a
-  answered-stops h x y z = record { runs = λ q. absurd (omega arith); stops = λ k. (x, y, z) }
+  answered-stops h x y z = record { runs = λ q. absurd (omega arith); stops = λ k. record { says = x; shows = y; kept = z } }

@@ -1,3 +1,4 @@
+pub mod Agree
 pub mod Cleared
 pub mod Ends
 pub mod Examples
@@ -10,6 +11,7 @@ pub mod Marks
 pub mod Paths
 pub mod Shown
 pub mod Stack
+pub mod Total
 pub mod Turn
 pub mod Unique
 pub mod Verdict

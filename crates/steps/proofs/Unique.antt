@@ -1,12 +1,17 @@
 -- At most one outcome settles a search (`settles-unique`), a budget that covers all paths brings a yes or a no (`covers`), and what the
 -- two public functions must answer and leave is one answer and one room (`paused-one`, `search-one`). Assumes nothing.
+use mathlib.Core.Bool.{cond}
 use mathlib.Core.List.{List}
 use mathlib.Core.Logic.{⊎-elim}
 use mathlib.Core.Path.{_≡_, refl, sym, ap, ap₂, _∙_}
 use Prim.Native.Nat.{ℕ, zero, suc, _≤_, zero-le, suc-le-suc}
 use native.Mathlib.Nat.{le-antisymm}
 use native.Mathlib.Omega.{arith}
+use lib.Dec.{eqb}
 use lib.ListN.{length}
+use Rattle.fields.specs.declared.fault.Fault.{Fault}
+use Rattle.fields.specs.declared.fault.Fault.the-variants.{UnknownEdition, TooLong, CutShort, BadCount, BadValue, LeftOver}
+use Rattle.fields.proofs.Pinned.{faultOf}
 use Rattle.issuing.specs.declared.Issuing.{Issuing}
 use Rattle.policy.specs.declared.judged.Judged.{Judged}
 use Rattle.order.specs.Paths.{Places, Count}
@@ -17,7 +22,7 @@ use Rattle.steps.specs.declared.Reply.{Reply}
 use Rattle.steps.specs.declared.Reply.the-variants as reply
 use Rattle.steps.specs.declared.Path.{Path}
 use Rattle.steps.specs.declared.Answer.{Answer}
-use Rattle.steps.specs.Answer.{Told, told, saying, shown, pathShown, Tells, Paused, Searched, Answered, placesOf, rootsOf, fault}
+use Rattle.steps.specs.Answer.{Told, told, saying, shown, pathShown, Tells, Paused, Searched, Stops, Answered, placesOf, rootsOf, fault}
 use Rattle.steps.specs.Room.{holding}
 use Rattle.steps.specs.Settles.{Roots, Accepted, Outcome, accepted, refused, exhausted, Settles}
 
@@ -51,21 +56,28 @@ module _ (g : Places) where
 -- ---- what the public functions answer
 
 -- a reply, from what it says
-abbrev reply-of : ℕ → ℕ → ℕ → Reply
-reply-of zero r s = reply.Accepted (record { 0 = r }) s
-reply-of (suc zero) r s = reply.Refused s
-reply-of (suc (suc zero)) r s = reply.Exhausted s
-reply-of (suc (suc (suc zero))) r s = reply.EmptyChain
-reply-of (suc (suc (suc (suc n)))) r s = reply.NoRoom
-
 abbrev said : Told → Reply
-said t = reply-of (t .number) (t .root) (t .steps)
+said t =
+    cond (eqb (t .number) 0) (reply.Accepted (record { 0 = t .root }) (t .steps)) (
+    cond (eqb (t .number) 1) (reply.Refused (t .steps)) (
+    cond (eqb (t .number) 2) (reply.Exhausted (t .steps)) (
+    cond (eqb (t .number) 3) reply.EmptyChain (
+    cond (eqb (t .number) 10) reply.NoRoom (reply.Unread (faultOf (t .number)))))))
+
+unread : (f : Fault) → said (told (reply.Unread f)) ≡ reply.Unread f
+unread UnknownEdition = refl
+unread TooLong = refl
+unread CutShort = refl
+unread BadCount = refl
+unread BadValue = refl
+unread LeftOver = refl
 
 said-told : (r : Reply) → said (told r) ≡ r
 said-told (reply.Accepted r s) = refl
 said-told (reply.Refused s) = refl
 said-told (reply.Exhausted s) = refl
 said-told reply.EmptyChain = refl
+said-told (reply.Unread f) = unread f
 said-told reply.NoRoom = refl
 
 -- two replies that say the same are the same
@@ -97,13 +109,15 @@ module _ {g : Places} {w : Roots} {k : ℕ} {a b : Answer} where
       let (e, f) = told-unique (x .tells) (y .tells) in
       record { answer = f; room = x .clear ∙ sym (y .clear) }
 
-module _ {before after later : List ℕ} {a b : Answer} {P Q : Type 0} (same : P → Q → Same a b after later) where
-  pub answered-unique : (e : ℕ) → Answered P e before after a → Answered Q e before later b → Same a b after later
-  answered-unique zero x y = same (x .runs refl) (y .runs refl)
-  answered-unique (suc e) x y =
-      let (f, h, i) = x .stops (suc-le-suc zero-le) in
-      let (f′, h′, i′) = y .stops (suc-le-suc zero-le) in
-      record { answer = answer-one a b (f ∙ sym f′) (h ∙ sym h′); room = i ∙ sym i′ }
+module _ {before after later : List ℕ} {a b : Answer} where
+  pub stops-unique : {e : ℕ} → Stops e before after a → Stops e before later b → Same a b after later
+  stops-unique x y =
+      record { answer = answer-one a b (x .says ∙ sym (y .says)) (x .shows ∙ sym (y .shows)); room = x .kept ∙ sym (y .kept) }
+
+  pub answered-unique : {P Q : Type 0} → (P → Q → Same a b after later)
+      → (e : ℕ) → Answered P e before after a → Answered Q e before later b → Same a b after later
+  answered-unique same zero x y = same (x .runs refl) (y .runs refl)
+  answered-unique same (suc e) x y = stops-unique (x .stops (suc-le-suc zero-le)) (y .stops (suc-le-suc zero-le))
 
 -- ---- the two functions
 

@@ -5,6 +5,7 @@ use mathlib.Core.Path.{_≡_}
 use Prim.Native.Nat.{ℕ, _<_}
 use lib.Dec.{ltb}
 use lib.ListN.{length, getD}
+use Rattle.fields.specs.Answers.{number}
 use Rattle.card.specs.declared.places.BundlePlace.{BundlePlace}
 use Rattle.issuing.specs.declared.Issuing.{Issuing}
 use Rattle.order.specs.Paths.{Places}
@@ -61,6 +62,7 @@ told (reply.Accepted r s) = tells 0 (r .0) s
 told (reply.Refused s) = tells 1 0 s
 told (reply.Exhausted s) = tells 2 0 s
 told reply.EmptyChain = tells 3 0 0
+told (reply.Unread f) = tells (number f) 0 0
 told reply.NoRoom = tells 10 0 0
 
 -- what an outcome's reply must say, and the path beside it
@@ -104,7 +106,13 @@ pub record Searched (g : Places) (w : Roots) (k : ℕ) (before after : List ℕ)
 unfoldable pub fault : ℕ → ℕ → ℕ
 fault n bytes = cond (ltb 0 n) (cond (hasRoom n bytes) 0 10) 3
 
--- where the fault e is 0, P; else the reply is its number, and nothing is written
+-- there is no search: the reply is the number e, and nothing is written
+pub record Stops (e : ℕ) (before after : List ℕ) (a : Answer) : Type 0 where
+  pub says : told (a .reply) ≡ tells e 0 0
+  pub shows : a .path ≡ pathShown []
+  pub kept : after ≡ before
+
+-- where the fault e is 0, P; else there is no search
 pub record Answered (P : Type 0) (e : ℕ) (before after : List ℕ) (a : Answer) : Type 0 where
   pub runs : e ≡ 0 → P
-  pub stops : 0 < e → (told (a .reply) ≡ tells e 0 0) × (a .path ≡ pathShown []) × (after ≡ before)
+  pub stops : 0 < e → Stops e before after a

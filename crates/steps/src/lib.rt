@@ -10,6 +10,7 @@ use crate::run::run;
 use card::Bundle;
 use card::BundlePlace;
 use card::RootPlace;
+use fields::Fault;
 use issuing::Issuing;
 use order::slots;
 use policy::Judged;
@@ -19,11 +20,13 @@ ghost use lib.ListN.{length};
 ghost use Rattle.steps.specs.Room.{hasRoom};
 ghost use Rattle.steps.specs.Answer.{pathShown, placesOf, rootsOf, fault, Answered, Paused, Searched};
 
+// The replies to a card file; the search itself gives all but the unread one.
 pub enum Reply {
     Accepted { root: RootPlace, steps: u64 },
     Refused { steps: u64 },
     Exhausted { steps: u64 },
     EmptyChain,
+    Unread(Fault),
     NoRoom,
 }
 
@@ -50,17 +53,29 @@ pub struct Answer {
     pub path: Path,
 }
 
+impl Answer {
+    // The answer where there is no search.
+    pub fn stopped(reply: Reply) -> Answer
+        ensures { λ r. ⌜ (r .reply ≡ reply) × (r .path ≡ pathShown []) ⌝ }
+    {
+        Answer {
+            reply,
+            path: Path::new(),
+        }
+    }
+}
+
 // Searches with this budget, and leaves the paths that wait then in the needed slots.
 pub fn paused(room: &mut [u8], n: u8, issuing: Issuing, judged: Judged, budget: u64) -> Answer
     ensures { λ r. ⌜ Answered (Paused (placesOf issuing n) (rootsOf issuing judged) budget (now (room .entry)) (now (room .exit)) r) (fault n (length (now (room .entry)))) (now (room .entry)) (now (room .exit)) r ⌝ }
 {
     if n == 0 {
-        return stopped(Reply::EmptyChain);
+        return Answer::stopped(Reply::EmptyChain);
     }
     if has_room(n, room.len()) {
         return run(room, n, issuing, judged, budget);
     }
-    stopped(Reply::NoRoom)
+    Answer::stopped(Reply::NoRoom)
 }
 
 // Searches with this budget, and leaves zeros in the needed slots.
@@ -68,14 +83,14 @@ pub fn search(room: &mut [u8], n: u8, issuing: Issuing, judged: Judged, budget: 
     ensures { λ r. ⌜ Answered (Searched (placesOf issuing n) (rootsOf issuing judged) budget (now (room .entry)) (now (room .exit)) r) (fault n (length (now (room .entry)))) (now (room .entry)) (now (room .exit)) r ⌝ }
 {
     if n == 0 {
-        return stopped(Reply::EmptyChain);
+        return Answer::stopped(Reply::EmptyChain);
     }
     if has_room(n, room.len()) {
         let answer = run(room, n, issuing, judged, budget);
         zero_bytes(room, 0, Slot::BYTES * (slots(n) as usize));
         return answer;
     }
-    stopped(Reply::NoRoom)
+    Answer::stopped(Reply::NoRoom)
 }
 
 // Whether so many bytes hold the slots that n certificates need.
@@ -86,14 +101,4 @@ fn has_room(n: u8, bytes: usize) -> bool
         return slots(n) as usize <= bytes / Slot::BYTES;
     }
     false
-}
-
-// The answer where there is no search.
-fn stopped(reply: Reply) -> Answer
-    ensures { λ r. ⌜ (r .reply ≡ reply) × (r .path ≡ pathShown []) ⌝ }
-{
-    Answer {
-        reply,
-        path: Path::new(),
-    }
 }

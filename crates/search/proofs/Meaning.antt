@@ -1,0 +1,88 @@
+-- On a card that was read, the rows and judged places say what the content says: the same places (`places-read`), and for a simple path the
+-- same roots (`reaches-content`, `reaches-rows`). Assumes nothing.
+use mathlib.Core.Bool.{Bool, true, false, _&&_, false≢true}
+use mathlib.Core.List.{List, [], _∷_, List·Memᴰ·head as here, List·Memᴰ·tail as there}
+use mathlib.Core.Path.{_≡_, refl, sym, ap, ap₂, _∙_, fun-ext}
+use Prim.Native.Nat.{ℕ, _≤_, _<_}
+use native.Mathlib.Omega.{arith}
+use borrow.Author.Tests.{lt-ltb, ltb-true, ltb-false}
+use lib.Dec.{ltb}
+use lib.ListN.{length}
+use Rattle.card.specs.Card.{sizeOf}
+use Rattle.card.specs.Content.{Content, contentOf, bundled}
+use Rattle.card.specs.declared.Card.{Card}
+use Rattle.card.proofs.Sections.{CardRead}
+use Rattle.card.proofs.Standing.{roots-counted, roots-few, bundle-counted, bundle-few}
+use Rattle.issuing.specs.Issued.{issued}
+use Rattle.issuing.specs.Records.{bundleRows, rootRows}
+use Rattle.issuing.proofs.Agrees.{size-is, bundle-row-agrees}
+use Rattle.order.specs.Listing.{_among_}
+use Rattle.order.specs.Paths.{Places, Simple}
+use Rattle.order.proofs.Simple.{simple-length}
+use Rattle.policy.specs.Judging.{lastOf}
+use Rattle.policy.specs.Qualifies.{qualifies}
+use Rattle.policy.specs.Sound.{soundPlaces, placeLimits, rootsAbove, rootLimits}
+use Rattle.policy.proofs.Qualified.{root-judged, qualifies-there, last-inside}
+use Rattle.policy.proofs.Seats.{Inside}
+use Rattle.steps.specs.Answer.{issuers, placesBy, rootsBy, qualifiesBy}
+use Rattle.steps.specs.Settles.{Roots, Reaches}
+use Rattle.search.specs.Search.{placesIn, rootsIn}
+
+inside-all : (n : ℕ) (l : List ℕ) → ((x : ℕ) → x among l → x < n) → Inside n l
+inside-all n [] h = tt
+inside-all n (x ∷ l) h = (h x (here refl), inside-all n l (λ y m. h y (there m)))
+
+module _ (s : List ℕ) (c : Card) (e : ℕ) (t : CardRead s c e) where
+  abbrev content : Content
+  content = contentOf c s
+
+  pub size-read : sizeOf 16 (c .bundle .count) ≡ length (content .bundle)
+  size-read =
+      let n = bundle-counted s c e t in
+      let m = bundle-few s c e t in
+      size-is 16 (c .bundle .count) (omega arith) ∙ sym n
+
+  pub places-read : placesBy (bundleRows s (c .bundle) (c .verdicts)) (sizeOf 16 (c .bundle .count)) ≡ placesIn content
+  places-read =
+      ap₂ (λ (n : ℕ) (f : ℕ → ℕ → Bool). record { size = n; issued = f }) size-read
+      (fun-ext (λ i. fun-ext (λ j. bundle-row-agrees s c e t i j)))
+
+  -- the roots as rows and judged places say them
+  abbrev pub rootsRead : Roots
+  rootsRead =
+      rootsBy (rootRows s (c .roots) (c .bundle) (c .verdicts)) (soundPlaces s (c .task .now) (c .bundle))
+      (placeLimits s (c .bundle)) (rootsAbove s (c .task .now) c) (rootLimits s (c .roots))
+
+  qualifies-read : (p : List ℕ) (r : ℕ) → Simple (placesIn content) p → rootsRead .good p r ≡ qualifies content p r
+  unfolding qualifiesBy
+  qualifies-read p r h = from-leaf (h .start .0) (h .start .1)
+    where
+      from-leaf : (l : List ℕ) → p ≡ 0 ∷ l → rootsRead .good p r ≡ qualifies content p r
+      from-leaf l q =
+          let h′ : Simple (placesIn content) (0 ∷ l) = rw q at h in
+          let n = bundle-counted s c e t in
+          let m = bundle-few s c e t in
+          let k = simple-length (placesIn content) h′ in
+          let inside : Inside (c .bundle .count) l = inside-all (c .bundle .count) l (λ x y. let z = h′ .inside x (there y) in omega arith) in
+          let some : 0 < c .bundle .count = omega arith in
+          let low : lastOf 0 l < 16 = let a = last-inside (c .bundle .count) 0 l some inside in omega arith in
+          rw (q, lt-ltb (lastOf 0 l) 16 low) (root-judged s c e t l some inside (omega arith) r)
+
+  pub reaches-content : (p : List ℕ) (r : ℕ) → Simple (placesIn content) p → Reaches rootsRead p r → Reaches (rootsIn content) p r
+  reaches-content p r h x = by-test (ltb r (length (content .roots))) refl
+    where
+      good : qualifies content p r ≡ true
+      good = sym (qualifies-read p r h) ∙ x .1
+
+      by-test : (b : Bool) → ltb r (length (content .roots)) ≡ b → Reaches (rootsIn content) p r
+      by-test true k = (ltb-true r (length (content .roots)) k, good)
+      by-test false k =
+          let m = ltb-false r (length (content .roots)) k in
+          let n = roots-counted s c e t in
+          absurd (false≢true (sym (qualifies-there s c e t p r (omega arith)) ∙ good))
+
+  pub reaches-rows : (p : List ℕ) (r : ℕ) → Simple (placesIn content) p → Reaches (rootsIn content) p r → Reaches rootsRead p r
+  reaches-rows p r h x =
+      let m = roots-few s c e t in
+      let n = x .0 in
+      (omega arith, qualifies-read p r h ∙ x .1)

@@ -1,0 +1,23 @@
+-- What the private function promises: a file's question, put once in rows and judged places. Assumes nothing.
+use mathlib.Core.List.{List}
+use mathlib.Core.Path.{_≡_}
+use Prim.Native.Nat.{ℕ}
+use Rattle.card.specs.Answers.{told, answer}
+use Rattle.card.specs.Card.{fileP, sizeOf}
+use Rattle.card.specs.declared.Card.{Card}
+use Rattle.issuing.specs.Records.{bundleRows, rootRows}
+use Rattle.policy.specs.Sound.{soundPlaces, placeLimits, rootsAbove, rootLimits}
+use Rattle.search.specs.declared.Question.{Question}
+
+-- q was put from a card that was read from s, or tells why none can be
+pub record PutFrom (s : List ℕ) (q : Question) : Type 0 where
+  pub card : Card
+  pub read : told (record { outcome = q .outcome; card = card }) ≡ answer (fileP s)
+  pub size : q .size ≡ sizeOf 16 (card .bundle .count)
+  pub bundle : q .issuing .bundle ≡ bundleRows s (card .bundle) (card .verdicts)
+  pub roots : q .issuing .roots ≡ rootRows s (card .roots) (card .bundle) (card .verdicts)
+  pub sound : q .judged .between .sound ≡ soundPlaces s (card .task .now) (card .bundle)
+  pub limits : q .judged .between .limits ≡ placeLimits s (card .bundle)
+  pub above : q .judged .above .sound ≡ rootsAbove s (card .task .now) card
+  pub tops : q .judged .above .limits ≡ rootLimits s (card .roots)
+  pub budget : q .budget ≡ card .task .budget

@@ -1,0 +1,76 @@
+// The checker: reads a card file and finds the first path that reaches a root under the policy, in lent room. Every file, budget and
+// room gets an answer.
+use card::Outcome;
+use card::read;
+use issuing::Issuing;
+use issuing::who_issued;
+use policy::Judged;
+use policy::judge;
+use steps::Answer;
+use steps::Reply;
+ghost use Rattle.card.specs.Content.{contentP};
+ghost use Rattle.search.specs.Question.{PutFrom};
+ghost use Rattle.search.specs.Search.{Search, Pause};
+
+// What a file asks, with each certificate compared and judged once; of no certificates where the file can't be read.
+struct Question {
+    outcome: Outcome,
+    size: u8,
+    issuing: Issuing,
+    judged: Judged,
+    budget: u64,
+}
+
+// Searches with the file's own budget, and leaves zeros in the needed slots.
+pub fn search(file: &[u8], room: &mut [u8]) -> Answer
+    ensures { λ r. ⌜ Search (contentP (now (file .entry))) (now (room .entry)) (now (room .exit)) r ⌝ }
+{
+    let question = question_in(file);
+    let outcome = question.outcome;
+    match outcome {
+        Outcome::Read => {
+            return steps::search(
+                room,
+                question.size,
+                question.issuing,
+                question.judged,
+                question.budget,
+            );
+        }
+        Outcome::Stop(fault) => {
+            return Answer::stopped(Reply::Unread(fault));
+        }
+    }
+}
+
+// Searches with budget k, and leaves the paths that wait then in the needed slots.
+pub fn paused(file: &[u8], k: u64, room: &mut [u8]) -> Answer
+    ensures { λ r. ⌜ Pause (contentP (now (file .entry))) k (now (room .entry)) (now (room .exit)) r ⌝ }
+{
+    let question = question_in(file);
+    let outcome = question.outcome;
+    match outcome {
+        Outcome::Read => {
+            return steps::paused(room, question.size, question.issuing, question.judged, k);
+        }
+        Outcome::Stop(fault) => {
+            return Answer::stopped(Reply::Unread(fault));
+        }
+    }
+}
+
+// The question in a file.
+fn question_in(file: &[u8]) -> Question
+    ensures { λ r. ⌜ PutFrom (now (file .entry)) r ⌝ }
+{
+    let reading = read(file);
+    let outcome = reading.outcome;
+    let card = reading.card;
+    Question {
+        outcome,
+        size: card.bundle.size(),
+        issuing: who_issued(file, card),
+        judged: judge(file, card.task.now, card),
+        budget: card.task.budget,
+    }
+}
