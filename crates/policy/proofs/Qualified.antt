@@ -17,8 +17,8 @@ use Rattle.rows.specs.Rows.{has, seek}
 use Rattle.rows.proofs.Places.{seek-least, seek-is, seek-same}
 use Rattle.issuing.specs.Issued.{issued}
 use Rattle.issuing.specs.Records.{rootRows}
-use Rattle.issuing.proofs.Agrees.{no-issuer, root-row-agrees}
-use Rattle.policy.specs.Rules.{allows}
+use Rattle.issuing.proofs.Agrees.{and-no, no-issuer, root-row-agrees}
+use Rattle.rules.specs.Rules.{allows}
 use Rattle.policy.specs.Policy.{policy, chainOf}
 use Rattle.policy.specs.Sound.{topSound, soundPlaces, placeLimits, rootLimits, rootsAbove}
 use Rattle.policy.specs.Judging.{lastOf, stands, allStand, lowestAbove, judgedRoot}
@@ -27,10 +27,6 @@ use Rattle.policy.proofs.Chains.{allBetween, leafSound, bySeat, policy-
 use Rattle.policy.proofs.Seats.{Inside, all-stand-read, top-read}
 
 -- ---- tests
-
-no-and : (a b : Bool) → b ≡ false → a && b ≡ false
-no-and true b h = h
-no-and false b h = refl
 
 -- leaf, between, root and its limit, asked in two orders
 two-orders : (l b t a : Bool) → b && (l && t && a) ≡ l && b && (t && a)
@@ -44,7 +40,7 @@ seek-none : (test : ℕ → Bool) (n : ℕ) → ((i : ℕ) → test i ≡ false)
 seek-none test n h =
     seek-is test 0 n n (record { from = omega arith; within = omega arith; below = λ i _ _. h i; passes = λ l. absurd (omega arith) })
 
-last-inside : (n p : ℕ) (l : List ℕ) → p < n → Inside n l → lastOf p l < n
+pub last-inside : (n p : ℕ) (l : List ℕ) → p < n → Inside n l → lastOf p l < n
 last-inside n p [] h k = h
 last-inside n p (q ∷ l) h k = last-inside n q l (k .0) (k .1)
 
@@ -80,13 +76,13 @@ module _ (s : List ℕ) (c : Card) (e : ℕ) (t : CardRead s c e) where
     issuers = getD (rootRows s (c .roots) (c .bundle) (c .verdicts)) last 0
 
     -- a root by which the path is judged right is one by which it qualifies
-    root-judged : (r : ℕ) → between && (has r issuers && above r) ≡ qualifies content (0 ∷ l) r
+    pub root-judged : (r : ℕ) → between && (has r issuers && above r) ≡ qualifies content (0 ∷ l) r
     unfolding contentOf bySeat
     root-judged r = ap (λ b. between && (b && above r)) (root-row-agrees s c e t r last) ∙ by-issuer (issued content (root r) last) refl
       where
         by-issuer : (b : Bool) → issued content (root r) last ≡ b
             → between && (b && above r) ≡ (b && policy (content .now) (content .host) (chainOf content 0 l r))
-        by-issuer false k = no-and between false refl
+        by-issuer false k = and-no between false refl
         by-issuer true k =
             rw (
               all-stand-read s c e t (c .task .now) 0 l inside (omega arith),
@@ -113,7 +109,7 @@ module _ (s : List ℕ) (c : Card) (e : ℕ) (t : CardRead s c e) where
         rw (lt-ltb last 16 low) (by-between between refl)
 
   -- a root by which a path qualifies is there
-  qualifies-there : (p : List ℕ) (r : ℕ) → c .roots .count ≤ r → qualifies content p r ≡ false
+  pub qualifies-there : (p : List ℕ) (r : ℕ) → c .roots .count ≤ r → qualifies content p r ≡ false
   qualifies-there [] r h = refl
   qualifies-there (p ∷ l) r h = ap (λ b. b && policy (content .now) (content .host) (chainOf content p l r)) (not-issued (issued content (root r) (lastOf p l)) refl)
     where
