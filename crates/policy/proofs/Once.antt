@@ -11,8 +11,8 @@ use Rattle.record.specs.Certificate.{Certificate, certificateOf}
 use Rattle.record.specs.declared.Record.{Record}
 use Rattle.card.specs.Card.{recordOf}
 use Rattle.card.specs.declared.Card.{Card}
-use Rattle.policy.specs.Rules.{inDate, wellFormed, handled, authority}
-use Rattle.policy.specs.Records.{forServersAt, forHostAt}
+use Rattle.rules.specs.Rules.{inDate, wellFormed, handled, authority}
+use Rattle.rules.specs.Records.{forServersAt, forHostAt}
 use Rattle.policy.specs.Sound.{betweenSound, topSound, leafSoundAt, limitOf, soundRoots, rootsAbove}
 
 -- ---- a path length
