@@ -7,7 +7,8 @@ use mathlib.Core.Option.{none}
 use Rattle.text.specs.Bytes.{lowered, same, startsWith}
 use Rattle.text.specs.Wildcard.{matchName}
 use Rattle.fields.specs.Fields.{countP, spanP, bytesOf, stringP}
-use Rattle.record.specs.Record.{flag, dnsNameP}
+use Rattle.lists.specs.Lists.{dnsNameP}
+use Rattle.extensions.specs.Extensions.{flag}
 use Rattle.record.specs.Certificate.{Certificate}
 use Rattle.policy.specs.Rules.{inDate, wellFormed, handled, authority, allows, forServers, names, forHost}
 use Rattle.policy.specs.Policy.{pathLengths, policy}
