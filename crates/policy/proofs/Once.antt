@@ -6,7 +6,7 @@ use mathlib.Core.List.{List}
 use mathlib.Core.Path.{_≡_, sym}
 use borrow.Author.Tests.{eq-eqb, ne-eqb}
 use Rattle.fields.specs.Fields.{bytesOf}
-use Rattle.record.specs.Record.{flag}
+use Rattle.extensions.specs.Extensions.{flag}
 use Rattle.record.specs.Certificate.{Certificate, certificateOf}
 use Rattle.record.specs.declared.Record.{Record}
 use Rattle.card.specs.Card.{recordOf}

@@ -8,8 +8,8 @@ use mathlib.Core.List.{List, []}
 use native.Mathlib.Omega.{arith}
 use Rattle.fields.specs.Fields.{Parsed, got, stop, many}
 use Rattle.fields.proofs.Many.{many-split}
-use Rattle.record.specs.declared.lists.Row.{Row}
-use Rattle.record.proofs.Meaning.{RowRead}
+use Rattle.lists.specs.declared.Row.{Row}
+use Rattle.lists.proofs.Meaning.{RowRead}
 use Rattle.rules.specs.Rules.{any}
 use Rattle.rules.specs.Records.{passes, anyOf}
 

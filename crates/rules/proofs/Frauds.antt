@@ -5,7 +5,7 @@ use mathlib.Core.List.{[], _∷_}
 use Rattle.text.specs.Bytes.{lowered, same, startsWith}
 use Rattle.text.specs.Wildcard.{matchName}
 use Rattle.fields.specs.Fields.{countP, spanP, bytesOf, stringP}
-use Rattle.record.specs.Record.{dnsNameP}
+use Rattle.lists.specs.Lists.{dnsNameP}
 use Rattle.rules.specs.Rules.{names}
 use Rattle.rules.specs.Records.{passes, anyOf, forHostAt}
 

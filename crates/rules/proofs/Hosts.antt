@@ -5,10 +5,10 @@ use mathlib.Core.Bool.{Bool}
 use mathlib.Core.List.{List, map}
 use lib.ListN.{length}
 use borrow.Author.Tests.{ne-eqb, le-leb}
+use Rattle.lists.specs.Lists.{dnsNameP}
+use Rattle.lists.specs.declared.Row.{Row}
 use Rattle.text.specs.Bytes.{lowered}
 use Rattle.text.specs.Wildcard.{matchName}
-use Rattle.record.specs.Record.{dnsNameP}
-use Rattle.record.specs.declared.lists.Row.{Row}
 use Rattle.rules.specs.Rules.{names}
 use Rattle.rules.specs.Records.{anyOf, forHostAt}
 

@@ -5,7 +5,7 @@ use mathlib.Core.Path.{_≡_}
 use mathlib.Core.List.{List}
 use lib.ListN.{length}
 use borrow.Author.Tests.{le-leb}
-use Rattle.record.specs.Record.{usageP, dnsNameP}
+use Rattle.lists.specs.Lists.{usageP, dnsNameP}
 use Rattle.record.specs.Certificate.{certificateOf}
 use Rattle.record.specs.declared.Record.{Record}
 use Rattle.record.proofs.Meaning.{RecordRead, says-usages, says-dns-names}

@@ -3,10 +3,10 @@ use Prim.Native.Nat.{ℕ, _<_, _≤_}
 use mathlib.Core.Path.{_≡_}
 use mathlib.Core.List.{List}
 use borrow.Author.Tests.{le-leb, lt-leb}
-use Rattle.fields.specs.Fields.{got, stop, countP, spanP, bytesOf}
+use Rattle.fields.specs.Fields.{got, stop, countP, spanP, bytesOf, byteP}
 use Rattle.fields.specs.declared.string.Span.{Span}
 use Rattle.fields.proofs.Strings.{string-got, string-stops}
-use Rattle.record.specs.Record.{byteP, usageP, dnsNameP}
+use Rattle.lists.specs.Lists.{usageP, dnsNameP}
 
 module _ (s : List ℕ) (at : ℕ) where
   pub usage-got : (u e : ℕ) → countP 0 255 s at ≡ got u e → u ≤ 7 → usageP s at ≡ got u e

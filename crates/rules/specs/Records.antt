@@ -5,8 +5,8 @@ use mathlib.Core.List.{List}
 use lib.Dec.{eqb, leb}
 use lib.ListN.{length}
 use Rattle.fields.specs.Fields.{Parsed, got, stop}
-use Rattle.record.specs.Record.{usageP, dnsNameP}
-use Rattle.record.specs.declared.lists.Row.{Row}
+use Rattle.lists.specs.Lists.{usageP, dnsNameP}
+use Rattle.lists.specs.declared.Row.{Row}
 use Rattle.rules.specs.Rules.{serving, names}
 
 -- what was found passes, or else `rest` where it ends

@@ -5,9 +5,9 @@ use mathlib.Core.List.{List, [], _∷_, map}
 use mathlib.Core.Option.{Option, none, some}
 use lib.Dec.{eqb, leb}
 use lib.ListN.{length}
+use Rattle.extensions.specs.Extensions.{flag}
 use Rattle.text.specs.Bytes.{lowered, same}
 use Rattle.text.specs.Wildcard.{matchName}
-use Rattle.record.specs.Record.{flag}
 use Rattle.record.specs.Certificate.{Certificate}
 
 -- one of these passes

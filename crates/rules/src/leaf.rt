@@ -5,17 +5,16 @@ use fields::StringAt;
 use fields::count_at;
 use fields::part;
 use fields::string_at;
-use record::Record;
-use record::Row;
+use lists::Row;
 use text::lower;
 use text::match_name;
 ghost use mathlib.Core.List.{map};
 ghost use mathlib.Core.Path.{_≡_};
 ghost use Prim.Native.Nat.{_≤_};
 ghost use lib.ListN.{length, take};
+ghost use Rattle.lists.specs.Lists.{usageP, dnsNameP};
 ghost use Rattle.text.specs.Wildcard.{matchName};
 ghost use Rattle.text.specs.Bytes.{lowered};
-ghost use Rattle.record.specs.Record.{usageP, dnsNameP};
 ghost use Rattle.rules.specs.Rules.{serving};
 ghost use Rattle.rules.specs.Records.{anyOf, forServersAt, forHostAt};
 
@@ -38,7 +37,7 @@ fn any_serving(file: &[u8], first: usize, n: usize) -> bool
     while 0 < left {
         match count_at(file, at, 0, 255) {
             CountAt::Got { count: usage, next } => {
-                if Record::USAGE_MOST < usage {
+                if Row::USAGE_MOST < usage {
                     return false;
                 }
                 if serving(usage) {
@@ -91,7 +90,7 @@ fn any_names(file: &[u8], asked: &[u8], first: usize, n: usize) -> bool
     let mut at = first;
     let mut left = n;
     while 0 < left {
-        match string_at(file, at, Record::DNS_NAME_LEAST, Record::DNS_NAME_MOST) {
+        match string_at(file, at, Row::DNS_NAME_LEAST, Row::DNS_NAME_MOST) {
             StringAt::Got(name) => {
                 if matches(part(file, name), asked) {
                     return true;

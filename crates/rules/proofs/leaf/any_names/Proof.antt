@@ -8,7 +8,7 @@ use Rattle.text.specs.Bytes.{lowered}
 use Rattle.text.specs.Wildcard.{matchName}
 use Rattle.fields.specs.Answers.{spanned}
 use Rattle.fields.proofs.Strings.{span-read}
-use Rattle.record.specs.Record.{dnsNameP}
+use Rattle.lists.specs.Lists.{dnsNameP}
 use Rattle.rules.proofs.Things.{dns-name-got, dns-name-stops}
 use Rattle.rules.proofs.AnyOf.{Left, any-next, any-found, any-stops, any-ends}
 use Rattle.rules.proofs.leaf.any_names.Statement.{statement}

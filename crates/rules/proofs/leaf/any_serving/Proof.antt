@@ -4,7 +4,7 @@
 use mathlib.Core.Path.{refl, sym, ap, _∙_}
 use borrow.Author.Needs.{needs}
 use Rattle.fields.specs.Answers.{counted}
-use Rattle.record.specs.Record.{usageP}
+use Rattle.lists.specs.Lists.{usageP}
 use Rattle.rules.specs.Rules.{serving}
 use Rattle.rules.proofs.Things.{usage-got, usage-bad, usage-stops}
 use Rattle.rules.proofs.AnyOf.{Left, any-next, any-found, any-stops, any-ends}

@@ -1,7 +1,7 @@
 -- `allows` answers whether so many certificates are no more than the path length, where flag 16 says that there is one.
 -- Assumes nothing.
 use borrow.Author.Tests.{eq-eqb, ne-eqb}
-use Rattle.record.specs.Record.{flag}
+use Rattle.extensions.specs.Extensions.{flag}
 use Rattle.record.specs.Certificate.{certificateOf}
 use Rattle.rules.specs.Rules.{allows}
 use Rattle.rules.proofs.rules.allows.Statement.{statement}

@@ -1,6 +1,6 @@
 -- `authority` answers whether flag 8 is set, and 64 where 32 is. Assumes nothing.
 use borrow.Author.Tests.{eq-eqb, ne-eqb}
-use Rattle.record.specs.Record.{flag}
+use Rattle.extensions.specs.Extensions.{flag}
 use Rattle.record.specs.Certificate.{certificateOf}
 use Rattle.rules.specs.Rules.{authority}
 use Rattle.rules.proofs.rules.authority.Statement.{statement}

@@ -1,6 +1,6 @@
 -- `handled` answers whether flag 128 is not set. Assumes nothing.
 use mathlib.Core.Path.{refl}
-use Rattle.record.specs.Record.{flag}
+use Rattle.extensions.specs.Extensions.{flag}
 use Rattle.record.specs.Certificate.{certificateOf}
 use Rattle.rules.specs.Rules.{handled}
 use Rattle.rules.proofs.rules.handled.Statement.{statement}
