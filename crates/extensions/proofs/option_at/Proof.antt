@@ -34,10 +34,4 @@ returns-3 c = rw (c .if1 .left)
 pub option-at-spec : {M : Type 1} → statement M
 option-at-spec =
     tie.close
-    (tie.spec
-    string-at-requires
-    enum-known-span
-    returns
-    enum-known-fault
-    returns-2
-    returns-3)
+    (tie.spec string-at-requires enum-known-span returns enum-known-fault returns-2 returns-3)

@@ -36,10 +36,4 @@ returns-3 c = rw (sym (c .before .before .before .count-at .ensures) ∙ ap coun
 pub usage-at-spec : {M : Type 1} → statement M
 usage-at-spec =
     tie.close
-    (tie.spec
-    count-at-requires
-    enum-known-usage
-    returns
-    returns-2
-    enum-known-fault
-    returns-3)
+    (tie.spec count-at-requires enum-known-usage returns returns-2 enum-known-fault returns-3)
