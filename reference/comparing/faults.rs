@@ -20,7 +20,7 @@ pub fn stretch(random: &mut Random, draft: &mut Draft, edge: Edge) {
     };
     let kind = match edge {
         Edge::Inside => random.below(12),
-        Edge::Outside => random.below(17),
+        Edge::Outside => random.below(18),
     };
     let cert = draft.cert(place);
     match kind {
@@ -38,8 +38,8 @@ pub fn stretch(random: &mut Random, draft: &mut Draft, edge: Edge) {
         9 => draft.host.resize(size(random, 0, 253), b'x'),
         10 | 11 if edge == Edge::Inside => fill_names(random, draft),
         10..=12 => stretch_name(random, name_at(place, draft)),
-        13 => draft.stray_verdicts = random.pick(&[1, 2, 255, 256, u16::MAX]),
-        14 => draft.tasks = random.pick(&[0, 2, 255]),
+        13 | 14 => draft.stray_verdicts = random.pick(&[1, 255, 256, 512, u16::MAX]),
+        15 => draft.tasks = random.pick(&[0, 2, 255]),
         _ => crowd(random, draft),
     }
 }

@@ -19,14 +19,16 @@ pub struct Question {
     pub room: Vec<u8>,
 }
 
-/// A file whose search ends within a bearable number of steps.
+/// A file whose search takes a bearable number of steps, even one that goes wrong.
 pub struct Made {
     pub bytes: Vec<u8>,
     pub bundle: usize,
     /// The file's budget, where it can be read.
     pub budget: Option<u64>,
-    /// The least budget that brings a yes or a no, where it is known.
+    /// The least budget that brings a yes or a no, where it is bearable.
     pub settled: Option<u64>,
+    /// The number of simple paths, where it is bearable.
+    pub paths: Option<u64>,
 }
 
 pub fn make(random: &mut Random) -> Made {
@@ -34,7 +36,8 @@ pub fn make(random: &mut Random) -> Made {
     let most = random.weighed(&[(650, 200), (300, 2_000), (49, 20_000), (1, 200_000)]);
     let mut file = bounded(bytes, most);
     if let Some(steps) = file.settled.filter(|_| random.chance(80)) {
-        let budget = around(random, steps);
+        let far = file.paths.map_or(most, |_| u64::MAX);
+        let budget = around(random, steps).min(far);
         set_budget(&mut file.bytes, budget);
         file.budget = Some(budget);
     }
@@ -92,16 +95,19 @@ fn changed(random: &mut Random, change: impl Fn(&mut Random, &mut Vec<u8>)) -> V
     file
 }
 
-/// A draft with one fault, at times with a second one or cut off, so that the order of judging is asked.
+/// A draft with one fault, at times with a second one or cut off behind the first, so that the order of judging is asked.
 fn broken(random: &mut Random, fault: impl Fn(&mut Random, &mut Draft)) -> Vec<u8> {
     let mut draft = sound(random);
+    let before = draft.bytes();
     fault(random, &mut draft);
     if random.chance(15) {
         spoil_value(random, &mut draft);
     }
     let mut file = draft.bytes();
-    if random.chance(15) {
-        cut(random, &mut file);
+    let first = file.iter().zip(&before).position(|(a, b)| a != b);
+    match first {
+        Some(at) if random.chance(30) => file.truncate(at + random.pick(&[1, 1, 2, 3, 17])),
+        _ => {}
     }
     file
 }
@@ -118,7 +124,7 @@ fn empty(random: &mut Random) -> Vec<u8> {
     file
 }
 
-/// The file as it is, but for a budget above `most` that no yes or no comes before: it is brought down.
+/// The file as it is, but for a budget that could take more than `most` steps: it is brought down.
 pub fn bounded(mut bytes: Vec<u8>, most: u64) -> Made {
     let (bundle, budget) = match reader::read(&bytes) {
         Ok(card) if !card.bundle.is_empty() => (card.bundle.len(), card.task.budget),
@@ -128,24 +134,43 @@ pub fn bounded(mut bytes: Vec<u8>, most: u64) -> Made {
                 bytes,
                 budget: None,
                 settled: None,
+                paths: None,
             }
         }
     };
-    let settled = match paused(&bytes, most, &room::ENOUGH).reply {
-        Reply::Accepted { steps, .. } | Reply::Refused { steps } => Some(steps),
-        _ => None,
-    };
-    let bearable = match settled {
+    let paths = steps_within(&rootless(&bytes), most);
+    let budget = match paths {
         Some(_) => budget,
         None => budget % (most + 1),
     };
-    set_budget(&mut bytes, bearable);
+    set_budget(&mut bytes, budget);
     Made {
-        bytes,
         bundle,
-        budget: Some(bearable),
-        settled,
+        budget: Some(budget),
+        settled: steps_within(&bytes, most),
+        paths,
+        bytes,
     }
+}
+
+/// The steps to a yes or a no, where they are at most `most`.
+fn steps_within(file: &[u8], most: u64) -> Option<u64> {
+    match paused(file, most, &room::ENOUGH).reply {
+        Reply::Accepted { steps, .. } | Reply::Refused { steps } => Some(steps),
+        _ => None,
+    }
+}
+
+/// The file in which no root issued anything, so that every simple path is taken.
+fn rootless(file: &[u8]) -> Vec<u8> {
+    let mut file = file.to_vec();
+    if let Ok(card) = reader::read(&file) {
+        let (roots, bundle) = (card.roots.len(), card.bundle.len());
+        let task = 19 + card.task.host.len();
+        let rows = file.len() - task - (roots + bundle) * bundle;
+        file[rows..rows + roots * bundle].fill(0);
+    }
+    file
 }
 
 /// A budget near the one that settles the file.
@@ -173,7 +198,7 @@ pub fn questions(random: &mut Random, file: &Made) -> Vec<Question> {
     let last = file.settled.unwrap_or(40);
     calls.push(Call::Paused(random.pick(&[0, 1, 2])));
     calls.push(Call::Paused(random.pick(&[last, last - 1])));
-    calls.push(Call::Paused(match file.settled {
+    calls.push(Call::Paused(match file.paths {
         Some(_) if random.chance(20) => u64::MAX,
         _ => random.next() % (last + 2),
     }));
@@ -200,7 +225,7 @@ fn lent(random: &mut Random, bundle: usize) -> Vec<u8> {
         50..=69 => exact + random.within(1..=3),
         70..=84 => 106,
         85..=93 => exact.saturating_sub(1),
-        _ => random.within(0..=110),
+        _ => random.within(0..=300),
     };
     let part = random.pick(&[0, 0, 1, 16]);
     let length = count * 17 + part;

@@ -159,10 +159,10 @@ fn complete(random: &mut Random) -> Plan {
         bundle: vec![house; n],
         chain: vec![0],
         root: None,
-        root_hit: random.pick(&[15, 30, 100]),
+        root_hit: random.pick(&[15, 30, 60]),
         hit: random.pick(&[100, 100, 60]),
         noise: 0,
-        root_path_length: random.chance(70).then_some(random.below(4) as u8),
+        root_path_length: random.chance(80).then_some(random.pick(&[1, 1, 2, 3])),
     }
 }
 

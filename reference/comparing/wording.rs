@@ -30,9 +30,9 @@ const HOUSES: [&str; 8] = [
     "Imprimerie Plantin",
     "Walbaum Giesserei",
 ];
-const KINDS: [&str; 4] = ["Issuing CA", "Root CA", "Policy CA", "Cutting Desk"];
+const KINDS: [&str; 4] = ["Issuing CA", "Root@CA", "Policy CA [2]", "Cutting Desk"];
 const DOMAINS: [&str; 5] = ["bembo.example", "a.com", "type.co.example", "x", "a..b"];
-const LABELS: [&str; 6] = ["www", "cut", "x", "Orders", "a-1", "*"];
+const LABELS: [&str; 7] = ["www", "cut", "x", "Orders", "a-1", "*", "Q@[Z"];
 
 fn attribute(oid: &[u8], value: &str) -> Attribute {
     (oid.to_vec(), value.as_bytes().to_vec())
@@ -100,15 +100,26 @@ fn spaced(value: &[u8]) -> Vec<u8> {
 fn miss(random: &mut Random, name: &mut Name) {
     let rdn = random.below(name.len());
     let (oid, value) = &mut name[rdn][0];
-    match random.below(8) {
+    match random.below(10) {
         0 => value.push(b'\t'),
         1 => value.retain(|byte| *byte != b' '),
         2 => value.push(0xE9),
-        3 => oid.push(0),
-        4 => name[rdn].reverse(),
-        5 => name.reverse(),
-        6 => name.push(vec![attribute(UNIT, "")]),
+        3 => flip_neighbours(value),
+        4 => oid.push(0),
+        5 => name[rdn].reverse(),
+        6 => name[rdn].push(attribute(UNIT, "")),
+        7 => name.reverse(),
+        8 => name.push(vec![attribute(UNIT, "")]),
         _ => drop(name.pop()),
+    }
+}
+
+/// The bytes beside A and Z have no other case.
+fn flip_neighbours(value: &mut [u8]) {
+    for byte in value {
+        if matches!(*byte, b'@' | b'[' | b'`' | b'{') {
+            *byte ^= 32;
+        }
     }
 }
 
@@ -126,9 +137,11 @@ pub fn serial_of(entity: usize, dress: Dress) -> Vec<u8> {
 
 pub fn host(random: &mut Random) -> Vec<u8> {
     let (label, domain) = (random.pick(&LABELS), random.pick(&DOMAINS));
-    match random.below(8) {
-        0 => domain.into(),
-        1 => format!("{label}.{label}.{domain}").into(),
+    match random.below(16) {
+        0 | 1 => domain.into(),
+        2 => format!("{label}.{label}.{domain}").into(),
+        3 => format!(".{domain}").into(),
+        4 => random.pick(&["*.", "*", ".", "*..", "*.*."]).into(),
         _ => format!("{label}.{domain}").into(),
     }
 }
@@ -147,8 +160,10 @@ pub fn pattern(random: &mut Random, host: &[u8]) -> Vec<u8> {
         14 => random.pick(&[&b"*."[..], b"*", b".", b"*.."]).to_vec(),
         _ => [host, b"."].concat(),
     };
-    if random.chance(30) {
-        flip_cases(random, &mut pattern);
+    match random.below(10) {
+        0..=2 => flip_cases(random, &mut pattern),
+        3 => flip_neighbours(&mut pattern),
+        _ => {}
     }
     pattern.truncate(253);
     if pattern.is_empty() {
