@@ -79,7 +79,7 @@ fn seed_run(mut run: Run, seed: &str, count: &str, program: &[String]) -> Result
         let title = format!("seed {seed} file {of}");
         let mut same = run.compare(&title, &file, &questions);
         if of % stride == 0 && !program.is_empty() {
-            same &= run.compare_line(&title, &file, &terminal, of / stride % 2 == 0)?;
+            same &= run.compare_line(&title, &file, &terminal, of / stride % 2 == 0);
         }
         run.count(same);
     }
@@ -158,25 +158,25 @@ impl Run {
         same
     }
 
+    /// The same for the program's line; a program that can't be run or fails is a difference too.
     fn compare_line(
         &mut self,
         title: &str,
         file: &Made,
         terminal: &Terminal,
         from_pipe: bool,
-    ) -> Result<bool, String> {
-        let wrote = terminal.line(&file.bytes, from_pipe)?;
+    ) -> bool {
         let reply = reference::terminal(&file.bytes);
         self.tally.line(reply.number());
-        let same = wrote == format!("{reply}\n");
+        let expected = format!("{reply}\n");
+        let wrote = terminal.line(&file.bytes, from_pipe);
+        let same = wrote.as_ref() == Ok(&expected);
         if !same {
             self.show(title, &file.bytes, "terminal");
-            println!(
-                "  terminal   {wrote:?}\n  reference  {:?}",
-                format!("{reply}\n")
-            );
+            println!("  terminal   {wrote:?}");
+            println!("  reference  {expected:?}");
         }
-        Ok(same)
+        same
     }
 
     /// Says which file is answered differently, and keeps it.

@@ -79,7 +79,7 @@ fn cert(random: &mut Random, who: Who, depth: Option<usize>, now: u64, dress: Dr
     };
     let own_serial = random.chance(90);
     let serial = serial_of(if own_serial { who.subject } else { 99 }, dress);
-    let room = random.pick(&[0, 0, 1, 3, 250]);
+    let room = random.pick(&[0, 0, 1, 3, 240]);
     let path_length = depth.unwrap_or(1).saturating_sub(1) + room;
     let renewed = random.chance(3);
     let key = |entity: usize, renewed: bool| key_of(entity, renewed, dress);
