@@ -1,23 +1,19 @@
 // A certificate's record in a card file: the type with its limits, and the reader. A record that was read is numbers and places in
 // the file; nothing is copied out of it. What a file of records means is left to the crate above.
-mod extensions;
 mod head;
-mod lists;
 mod parties;
 mod strings;
 
-pub use extensions::Extensions;
+use extensions::Extensions;
 use extensions::ExtensionsAt;
-pub use extensions::KeyIds;
+use extensions::KeyIds;
 use extensions::extensions_at;
 use fields::Fault;
 use fields::Span;
 pub use head::Head;
 use head::HeadAt;
 use head::head_at;
-pub use lists::Row;
-pub use lists::dns_name;
-pub use lists::usage;
+use lists::Row;
 pub use parties::Names;
 use parties::NamesAt;
 use parties::names_at;
@@ -45,24 +41,6 @@ impl Record {
     pub const ALGORITHM_LEAST: usize = 1;
 
     pub const ALGORITHM_MOST: usize = 32;
-
-    pub const KEY_ID_LEAST: usize = 1;
-
-    pub const KEY_ID_MOST: usize = 64;
-
-    pub const USAGES_LEAST: usize = 0;
-
-    pub const USAGES_MOST: usize = 8;
-
-    pub const USAGE_MOST: usize = 7;
-
-    pub const DNS_NAMES_LEAST: usize = 0;
-
-    pub const DNS_NAMES_MOST: usize = 32;
-
-    pub const DNS_NAME_LEAST: usize = 1;
-
-    pub const DNS_NAME_MOST: usize = 253;
 
     // The record that stands where none was read: nothing but zeros.
     pub fn new() -> Record

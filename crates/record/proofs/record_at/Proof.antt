@@ -2,8 +2,9 @@
 -- A letter is the place after a part's call, and primed the place where the part was found. Assumes nothing.
 use borrow.Author.Needs.{needs}
 use mathlib.Core.Path.{sym, ap, _∙_}
+use Rattle.extensions.specs.Answers.{extended}
 use Rattle.record.specs.Record.{recordP}
-use Rattle.record.specs.Answers.{headed, stringed, named, extended}
+use Rattle.record.specs.Answers.{headed, stringed, named}
 use Rattle.record.proofs.record_at.Statement.{statement}
 use Rattle.record.proofs.record_at.Tie as tie
 

@@ -3,7 +3,7 @@ use borrow.Author.Tests.{eq-eqb, ne-eqb}
 use borrow.Author.Needs.{needs}
 use mathlib.Core.Path.{sym, ap, _∙_}
 use Rattle.fields.specs.Answers.{counted}
-use Rattle.record.specs.Record.{byteP}
+use Rattle.fields.specs.Fields.{byteP}
 use Rattle.card.specs.Card.{purposeP}
 use Rattle.card.proofs.task.purpose_at.Statement.{statement}
 use Rattle.card.proofs.task.purpose_at.Tie as tie

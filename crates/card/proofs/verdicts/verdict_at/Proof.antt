@@ -3,7 +3,7 @@ use borrow.Author.Tests.{le-leb, lt-leb}
 use borrow.Author.Needs.{needs}
 use mathlib.Core.Path.{sym, ap, _∙_}
 use Rattle.fields.specs.Answers.{counted}
-use Rattle.record.specs.Record.{byteP}
+use Rattle.fields.specs.Fields.{byteP}
 use Rattle.card.specs.Card.{verdictP}
 use Rattle.card.proofs.verdicts.verdict_at.Statement.{statement}
 use Rattle.card.proofs.verdicts.verdict_at.Tie as tie

@@ -3,7 +3,8 @@
 use mathlib.Core.Path.{sym, ap, _∙_}
 use borrow.Author.Tests.{lt-ltb, le-ltb}
 use Rattle.fields.specs.Answers.{counted}
-use Rattle.record.specs.Record.{byteP, flagsP}
+use Rattle.fields.specs.Fields.{byteP}
+use Rattle.record.specs.Record.{flagsP}
 use Rattle.record.proofs.Flags.{paired-test}
 use borrow.Author.Needs.{needs}
 use Rattle.record.proofs.head.flags_at.Statement.{statement}

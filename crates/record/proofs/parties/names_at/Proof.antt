@@ -1,10 +1,9 @@
 -- `names_at` answers the places of two names one after the other, or the first fault. Assumes nothing.
 use mathlib.Core.Path.{sym, ap, _∙_}
 use Rattle.fields.specs.Answers.{passed}
+use Rattle.fields.proofs.Ends.{passing-stops, passing-got}
 use Rattle.names.specs.Names.{nameP}
-use Rattle.names.proofs.Whole.{passing-stops}
 use Rattle.record.specs.Record.{namesP}
-use Rattle.record.proofs.Ends.{passing-got}
 use borrow.Author.Needs.{needs}
 use Rattle.record.proofs.parties.names_at.Statement.{statement}
 use Rattle.record.proofs.parties.names_at.Tie as tie
