@@ -28,9 +28,9 @@ returns c =
       bundle = issued .ensures .0;
       roots = issued .ensures .1;
       sound = c .judge .ensures .0;
-      limits = c .judge .ensures .1;
-      above = c .judge .ensures .2;
-      tops = c .judge .ensures .3;
+      limits = c .judge .ensures .1 .0;
+      above = c .judge .ensures .1 .1 .0;
+      tops = c .judge .ensures .1 .1 .1;
       budget = refl;
     }
 
