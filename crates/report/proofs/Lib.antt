@@ -3,3 +3,4 @@ pub mod Growing
 pub mod Places
 pub mod Replies
 pub mod Told
+pub mod Roomy

@@ -1,9 +1,12 @@
-// What is written for an answer: one line, by the words of the card-file paper.
+// What is written: one line for an answer, in the words of the card-file paper, and the line that replies to a card file. Reading the
+// file's bytes and writing the line's are left to the programs.
 mod line;
+mod reply;
 
 use card::Bundle;
 use card::RootPlace;
 pub use line::Line;
+pub use reply::reply_to;
 use steps::Answer;
 use steps::Path;
 use steps::Reply;
