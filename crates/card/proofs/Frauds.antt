@@ -3,9 +3,8 @@ use Prim.Native.Nat.{ℕ}
 use mathlib.Core.Path.{_≡_, ap, sym, _∙_}
 use mathlib.Core.List.{[]}
 use native.Mathlib.Omega.{arith}
-use Rattle.fields.specs.Fields.{whole, countP}
+use Rattle.fields.specs.Fields.{whole, countP, byteP}
 use Rattle.fields.specs.declared.fault.Fault.the-variants.{CutShort}
-use Rattle.record.specs.Record.{byteP}
 use Rattle.card.specs.Card.{editionP, cardP, fileP}
 use Rattle.card.specs.Answers.{told, answer}
 use Rattle.card.specs.declared.Card.{Card}

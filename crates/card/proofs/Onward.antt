@@ -7,11 +7,13 @@ use mathlib.Core.List.{List, _∷_}
 use native.Mathlib.Omega.{arith}
 use lib.Dec.{leb}
 use lib.ListN.{length}
-use Rattle.fields.specs.Fields.{Parsed, got, stop, after, countP, spanP, stringP, bigP, many, countedP}
+use Rattle.fields.specs.Fields.{Parsed, got, stop, after, countP, spanP, stringP, bigP, many, countedP, byteP}
 use Rattle.fields.proofs.Counts.{count-read}
 use Rattle.fields.proofs.Strings.{span-read}
 use Rattle.names.specs.Names.{attrP, rdnP, nameP}
-use Rattle.record.specs.Record.{flag, paired, byteP, flagsP, datesP, headP, stringsP, optionP, keyIdsP, pathLengthP, usageP, dnsNameP, rowP, extensionsP}
+use Rattle.lists.specs.Lists.{usageP, dnsNameP, rowP}
+use Rattle.extensions.specs.Extensions.{flag, optionP, keyIdsP, pathLengthP, extensionsP}
+use Rattle.record.specs.Record.{paired, flagsP, datesP, headP, stringsP}
 
 -- ---- any things
 

@@ -10,12 +10,12 @@ use lib.ListN.{length}
 use borrow.Author.Tests.{leb-true, eqb-true, ltb-false}
 use Rattle.fields.specs.Fields.{got, stop, after, countP, countedP, spanP, bigP, many, whole}
 use Rattle.fields.specs.declared.string.Span.{Span}
+use Rattle.fields.proofs.After.{after-got, judged-got, got-is}
 use Rattle.fields.proofs.Counts.{count-read}
 use Rattle.fields.proofs.Many.{many-length}
 use Rattle.fields.proofs.Strings.{SpanRead, span-read}
 use Rattle.record.specs.Record.{recordP}
 use Rattle.record.specs.declared.Record.{Record}
-use Rattle.record.proofs.After.{after-got, judged-got, got-is}
 use Rattle.card.specs.Card.{editionP, filled, rootsP, bundleP, verdictP, verdictsP, timesP, purposeP, taskP, cardP, fileP}
 use Rattle.card.specs.declared.roots.Roots.{Roots}
 use Rattle.card.specs.declared.bundle.Bundle.{Bundle}

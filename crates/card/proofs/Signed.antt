@@ -9,10 +9,9 @@ use native.Mathlib.Nat.{add-zero, suc-mul, mul-le-mul-right}
 use lib.Dec.{eqb, leb, ltb}
 use lib.ListN.{length, getD}
 use borrow.Author.Tests.{ltb-true}
-use Rattle.fields.specs.Fields.{Parsed, got, many}
+use Rattle.fields.specs.Fields.{Parsed, got, many, byteP}
+use Rattle.fields.proofs.After.{after-got, judged-got, got-is}
 use Rattle.fields.proofs.Counts.{count-read}
-use Rattle.record.specs.Record.{byteP}
-use Rattle.record.proofs.After.{after-got, judged-got, got-is}
 use Rattle.card.specs.Card.{verdictP, signedAt, rootSigned, bundleSigned}
 use Rattle.card.specs.Content.{contentOf, root, bundled, signed}
 use Rattle.card.specs.declared.Card.{Card}

@@ -7,9 +7,11 @@ use mathlib.Core.List.{List}
 use native.Mathlib.Omega.{arith}
 use lib.Dec.{eqb, leb, ltb}
 use lib.ListN.{length, getD}
-use Rattle.fields.specs.Fields.{Parsed, got, stop, after, countP, spanP, stringP, bigP, many, countedP, whole}
+use Rattle.fields.specs.Fields.{Parsed, got, stop, after, countP, spanP, stringP, bigP, many, countedP, whole, byteP}
 use Rattle.names.specs.Names.{attrP, rdnP, nameP}
-use Rattle.record.specs.Record.{flag, paired, byteP, flagsP, datesP, headP, stringsP, namesP, optionP, keyIdsP, pathLengthP, usageP, dnsNameP, rowP, extensionsP, recordP}
+use Rattle.lists.specs.Lists.{usageP, dnsNameP, rowP}
+use Rattle.extensions.specs.Extensions.{flag, optionP, keyIdsP, pathLengthP, extensionsP}
+use Rattle.record.specs.Record.{paired, flagsP, datesP, headP, stringsP, namesP, recordP}
 use Rattle.card.specs.Card.{editionP, rootsP, bundleP, verdictP, verdictsP, timesP, purposeP, taskP, cardP, fileP}
 use Rattle.card.specs.Answers.{numberOf, told, answer}
 use Rattle.card.specs.declared.Card.{Card}

@@ -10,12 +10,13 @@ use lib.Dec.{ltb}
 use lib.ListN.{length, getD}
 use borrow.Author.Tests.{ltb-true, ltb-false}
 use Rattle.fields.specs.Fields.{Parsed, got, many}
+use Rattle.fields.proofs.After.{after-got, got-is}
 use Rattle.names.specs.Names.{nameP}
-use Rattle.record.specs.Record.{headP, stringsP, namesP, extensionsP, recordP}
+use Rattle.extensions.specs.Extensions.{extensionsP}
+use Rattle.record.specs.Record.{headP, stringsP, namesP, recordP}
 use Rattle.record.specs.Fresh.{fresh}
 use Rattle.record.specs.declared.parties.Names.{Names}
 use Rattle.record.specs.declared.Record.{Record}
-use Rattle.record.proofs.After.{after-got, got-is}
 use Rattle.card.specs.Card.{recordOf}
 use Rattle.card.specs.declared.Card.{Card}
 use Rattle.card.proofs.Sections.{RecordsRead, CardRead}

@@ -5,8 +5,9 @@ use mathlib.Core.Bool.{Bool, cond, _&&_}
 use mathlib.Core.List.{List, _++_}
 use lib.Dec.{eqb, leb, ltb}
 use lib.ListN.{length, getD, replicate}
-use Rattle.fields.specs.Fields.{Parsed, got, stop, after, countP, countedP, spanP, bigP, many, whole}
-use Rattle.record.specs.Record.{byteP, nowhere, recordP}
+use Rattle.fields.specs.Fields.{Parsed, got, stop, after, countP, countedP, spanP, bigP, many, whole, byteP}
+use Rattle.extensions.specs.Extensions.{nowhere}
+use Rattle.record.specs.Record.{recordP}
 use Rattle.record.specs.Fresh.{fresh}
 use Rattle.record.specs.declared.Record.{Record}
 use Rattle.card.specs.declared.roots.Roots.{Roots}

@@ -8,7 +8,7 @@ use native.Mathlib.Omega.{arith}
 use lib.ListN.{length, getD}
 use lib.Dec.{ltb, leb}
 use borrow.Author.Tests.{ltb-true, leb-true, lt-ltb, le-ltb, le-leb, lt-leb}
-use Rattle.fields.specs.Fields.{got, stop, countP}
+use Rattle.fields.specs.Fields.{got, stop, countP, byteP}
 
 module _ (least most : ℕ) (s : List ℕ) (at : ℕ) where
   pub count-cut : length s ≤ at → countP least most s at ≡ stop 6
@@ -55,3 +55,7 @@ module _ (least most : ℕ) (s : List ℕ) (at n e : ℕ) where
   pub count-read : countP least most s at ≡ got n e → CountRead least most s at n e
   unfolding countP
   count-read h = by-tests _ _ _ refl refl refl h
+
+pub byte-few : (s : List ℕ) (at n e : ℕ) → byteP s at ≡ got n e → n ≤ 255
+unfolding byteP
+byte-few s at n e h = count-read 0 255 s at n e h .few

@@ -1,5 +1,7 @@
+pub mod After
 pub mod Big
 pub mod Counts
+pub mod Ends
 pub mod Filling
 pub mod Frauds
 pub mod Many

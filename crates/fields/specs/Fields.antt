@@ -25,6 +25,10 @@ countP least most s at =
     (cond (leb least (getD s at 0) && leb (getD s at 0) most) (got (getD s at 0) (at + 1)) (stop 7))
     (stop 6)
 
+-- any byte
+unfoldable pub byteP : List ℕ → ℕ → Parsed ℕ
+byteP = countP 0 255
+
 -- the place of a string's bytes: the length is judged first, then its bytes must be there
 unfoldable pub spanP : ℕ → ℕ → List ℕ → ℕ → Parsed Span
 spanP least most s at =

@@ -41,7 +41,7 @@ and-swap true false = refl
 and-swap false true = refl
 and-swap false false = refl
 
-and-no : (a b : Bool) → b ≡ false → a && b ≡ false
+pub and-no : (a b : Bool) → b ≡ false → a && b ≡ false
 and-no true b h = h
 and-no false b h = refl
 

@@ -11,7 +11,7 @@ use Rattle.fields.specs.Fields.{bytesOf}
 use Rattle.names.specs.Names.{nameP, sameDn}
 use Rattle.names.specs.Answers.{bothSame}
 use Rattle.keys.specs.AuthKeyId.{given, checkAuthKeyId}
-use Rattle.record.specs.Record.{flag}
+use Rattle.extensions.specs.Extensions.{flag}
 use Rattle.record.specs.Certificate.{certificateOf, present}
 use Rattle.record.specs.declared.Record.{Record}
 use Rattle.issuing.specs.Issued.{keysFit}

@@ -13,14 +13,10 @@ use Rattle.fields.specs.Answers.{number, passing, passed}
 use Rattle.fields.specs.declared.Past.{Past}
 use Rattle.fields.specs.declared.Past.the-variants.{Got, Stop}
 use Rattle.fields.specs.declared.fault.Fault.{Fault}
+use Rattle.fields.proofs.Ends.{passing-stops}
 use Rattle.names.specs.Answers.{asked, came}
 use Rattle.names.specs.Walks.{walk}
 use Rattle.names.specs.declared.same.Walk.the-variants.{On, Differ}
-
--- a thing that ends nowhere can't be read
-pub passing-stops : {A : Type 0} (x : Parsed A) (r : ℕ) → passing x ≡ stop r → x ≡ stop r
-passing-stops (got a e) r h = let z : _≡_ {A = ℕ} 0 1 = cc in absurd (omega arith)
-passing-stops (stop k) r h = let z : k ≡ r = cc in rw z
 
 -- what follows a thing that was read, where the bytes should end
 abbrev judged : {A : Type 0} → List ℕ → Parsed A → Parsed A

@@ -8,7 +8,7 @@ use native.Mathlib.Omega.{arith}
 use lib.ListN.{length}
 use Rattle.text.proofs.Each.{both-true}
 use Rattle.record.specs.Certificate.{Certificate}
-use Rattle.policy.specs.Rules.{inDate, wellFormed, handled, authority, allows, forServers, forHost}
+use Rattle.rules.specs.Rules.{inDate, wellFormed, handled, authority, allows, forServers, forHost}
 use Rattle.policy.specs.Policy.{Chain, all, pathLengths, policy}
 use Rattle.policy.specs.Sound.{betweenSound, topSound}
 

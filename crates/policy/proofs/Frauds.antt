@@ -1,29 +1,14 @@
--- Frauds that no edit of an operand makes: their answers do not satisfy the contract. Assumes nothing.
+-- A fraud that no edit of an operand makes, key usage asked of the leaf: its answer does not satisfy the contract. Assumes nothing.
 use Prim.Native.Nat.{ℕ}
 use mathlib.Core.Path.{_≡_, refl}
-use mathlib.Core.Bool.{true, false, false≢true}
+use mathlib.Core.Bool.{true, false}
 use mathlib.Core.List.{[], _∷_}
 use mathlib.Core.Option.{none}
-use Rattle.text.specs.Bytes.{lowered, same, startsWith}
-use Rattle.text.specs.Wildcard.{matchName}
-use Rattle.fields.specs.Fields.{countP, spanP, bytesOf, stringP}
-use Rattle.record.specs.Record.{flag, dnsNameP}
+use Rattle.text.specs.Bytes.{same}
+use Rattle.extensions.specs.Extensions.{flag}
 use Rattle.record.specs.Certificate.{Certificate}
-use Rattle.policy.specs.Rules.{inDate, wellFormed, handled, authority, allows, forServers, names, forHost}
+use Rattle.rules.specs.Rules.{inDate, wellFormed, handled, authority, allows, forServers, forHost}
 use Rattle.policy.specs.Policy.{pathLengths, policy}
-use Rattle.policy.specs.Records.{passes, anyOf, forHostAt}
-
--- the host compared as it stands: "A" refused under the DNS name "a"
-pub host-not-lowered : false ≡ forHostAt (1 ∷ 97 ∷ []) (65 ∷ []) (record { count = 1; first = 0 }) → ⊥
-unfolding forHostAt anyOf passes dnsNameP stringP spanP countP bytesOf names matchName lowered same startsWith
-host-not-lowered e = false≢true e
-
--- a DNS name compared as it stands: "a" refused under the DNS name "A"
-pub dns-name-not-lowered : false ≡ forHostAt (1 ∷ 65 ∷ []) (97 ∷ []) (record { count = 1; first = 0 }) → ⊥
-unfolding forHostAt anyOf passes dnsNameP stringP spanP countP bytesOf names matchName lowered same startsWith
-dns-name-not-lowered e = false≢true e
-
--- ---- key usage asked of the leaf
 
 -- a certificate of v3 with these flags, and nothing else in it
 abbrev plain : ℕ → Certificate

@@ -1,12 +1,7 @@
-pub mod AnyOf
 pub mod Chains
 pub mod Frauds
-pub mod Hosts
-pub mod LeafRead
-pub mod Lowering
 pub mod Once
 pub mod Paths
 pub mod Places
 pub mod Qualified
 pub mod Seats
-pub mod Things

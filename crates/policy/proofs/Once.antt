@@ -6,13 +6,13 @@ use mathlib.Core.List.{List}
 use mathlib.Core.Path.{_≡_, sym}
 use borrow.Author.Tests.{eq-eqb, ne-eqb}
 use Rattle.fields.specs.Fields.{bytesOf}
-use Rattle.record.specs.Record.{flag}
+use Rattle.extensions.specs.Extensions.{flag}
 use Rattle.record.specs.Certificate.{Certificate, certificateOf}
 use Rattle.record.specs.declared.Record.{Record}
 use Rattle.card.specs.Card.{recordOf}
 use Rattle.card.specs.declared.Card.{Card}
-use Rattle.policy.specs.Rules.{inDate, wellFormed, handled, authority}
-use Rattle.policy.specs.Records.{forServersAt, forHostAt}
+use Rattle.rules.specs.Rules.{inDate, wellFormed, handled, authority}
+use Rattle.rules.specs.Records.{forServersAt, forHostAt}
 use Rattle.policy.specs.Sound.{betweenSound, topSound, leafSoundAt, limitOf, soundRoots, rootsAbove}
 
 -- ---- a path length

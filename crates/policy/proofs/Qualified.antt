@@ -17,8 +17,8 @@ use Rattle.rows.specs.Rows.{has, seek}
 use Rattle.rows.proofs.Places.{seek-least, seek-is, seek-same}
 use Rattle.issuing.specs.Issued.{issued}
 use Rattle.issuing.specs.Records.{rootRows}
-use Rattle.issuing.proofs.Agrees.{no-issuer, root-row-agrees}
-use Rattle.policy.specs.Rules.{allows}
+use Rattle.issuing.proofs.Agrees.{and-no, no-issuer, root-row-agrees}
+use Rattle.rules.specs.Rules.{allows}
 use Rattle.policy.specs.Policy.{policy, chainOf}
 use Rattle.policy.specs.Sound.{topSound, soundPlaces, placeLimits, rootLimits, rootsAbove}
 use Rattle.policy.specs.Judging.{lastOf, stands, allStand, lowestAbove, judgedRoot}
@@ -27,10 +27,6 @@ use Rattle.policy.proofs.Chains.{allBetween, leafSound, bySeat, policy-
 use Rattle.policy.proofs.Seats.{Inside, all-stand-read, top-read}
 
 -- ---- tests
-
-no-and : (a b : Bool) → b ≡ false → a && b ≡ false
-no-and true b h = h
-no-and false b h = refl
 
 -- leaf, between, root and its limit, asked in two orders
 two-orders : (l b t a : Bool) → b && (l && t && a) ≡ l && b && (t && a)
@@ -86,7 +82,7 @@ module _ (s : List ℕ) (c : Card) (e : ℕ) (t : CardRead s c e) where
       where
         by-issuer : (b : Bool) → issued content (root r) last ≡ b
             → between && (b && above r) ≡ (b && policy (content .now) (content .host) (chainOf content 0 l r))
-        by-issuer false k = no-and between false refl
+        by-issuer false k = and-no between false refl
         by-issuer true k =
             rw (
               all-stand-read s c e t (c .task .now) 0 l inside (omega arith),

@@ -20,11 +20,11 @@ use Rattle.rows.specs.Rows.{has}
 use Rattle.rows.proofs.Places.{has-row, has-none}
 use Rattle.rows.proofs.Listing.{listing-there}
 use Rattle.issuing.proofs.Agrees.{size-is, root-is, bundled-is}
-use Rattle.policy.specs.Rules.{atMost, allows}
+use Rattle.rules.specs.Rules.{atMost, allows}
+use Rattle.rules.proofs.LeafRead.{for-servers-read, for-host-read}
 use Rattle.policy.specs.Sound.{betweenSound, topSound, leafSoundAt, orNoLimit, limitOf, soundPlaces, placeLimits, soundRoots, rootLimits, rootsAbove}
 use Rattle.policy.specs.Judging.{stands, allStand}
 use Rattle.policy.proofs.Chains.{allBetween, leafSound}
-use Rattle.policy.proofs.LeafRead.{for-servers-read, for-host-read}
 
 -- each of these places is below n
 abbrev pub Inside : ℕ → List ℕ → Type 0

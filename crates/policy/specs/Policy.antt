@@ -4,7 +4,7 @@ use mathlib.Core.Bool.{Bool, true, _&&_}
 use mathlib.Core.List.{List, [], _∷_, _++_, map}
 use Rattle.record.specs.Certificate.{Certificate}
 use Rattle.card.specs.Content.{Content, root, bundled, certificateAt}
-use Rattle.policy.specs.Rules.{inDate, wellFormed, handled, authority, allows, forServers, forHost}
+use Rattle.rules.specs.Rules.{inDate, wellFormed, handled, authority, allows, forServers, forHost}
 
 -- a chain c0 to ck: the leaf, those between, the root
 pub record Chain : Type 0 where

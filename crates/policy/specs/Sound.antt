@@ -12,8 +12,8 @@ use Rattle.card.specs.declared.Card.{Card}
 use Rattle.card.specs.declared.roots.Roots.{Roots}
 use Rattle.card.specs.declared.bundle.Bundle.{Bundle}
 use Rattle.rows.specs.Rows.{rowOf, listing}
-use Rattle.policy.specs.Rules.{inDate, wellFormed, handled, authority}
-use Rattle.policy.specs.Records.{forServersAt, forHostAt}
+use Rattle.rules.specs.Rules.{inDate, wellFormed, handled, authority}
+use Rattle.rules.specs.Records.{forServersAt, forHostAt}
 
 -- between leaf and root
 unfoldable pub betweenSound : ℕ → Certificate → Bool

@@ -1,10 +1,4 @@
 // What can be judged once per certificate is judged here, once, so that a path costs a few operations a place.
-use crate::leaf::for_host;
-use crate::leaf::for_servers;
-use crate::rules::authority;
-use crate::rules::handled;
-use crate::rules::in_date;
-use crate::rules::well_formed;
 use card::Bundle;
 use card::BundlePlace;
 use card::Card;
@@ -13,6 +7,12 @@ use card::Roots;
 use fields::part;
 use record::Record;
 use rows::with;
+use rules::authority;
+use rules::for_host;
+use rules::for_servers;
+use rules::handled;
+use rules::in_date;
+use rules::well_formed;
 ghost use mathlib.Core.List.{List};
 ghost use mathlib.Core.Path.{_≡_};
 ghost use Prim.Native.Nat.{ℕ};

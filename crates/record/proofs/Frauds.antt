@@ -3,9 +3,10 @@ use Prim.Native.Nat.{ℕ}
 use mathlib.Core.Path.{_≡_}
 use mathlib.Core.List.{[], _∷_}
 use native.Mathlib.Omega.{arith}
-use Rattle.fields.specs.Fields.{countP}
+use Rattle.fields.specs.Fields.{countP, byteP}
 use Rattle.fields.specs.declared.fault.Fault.the-variants.{CutShort}
-use Rattle.record.specs.Record.{flag, paired, byteP, flagsP, headP, recordP}
+use Rattle.extensions.specs.Extensions.{flag}
+use Rattle.record.specs.Record.{paired, flagsP, headP, recordP}
 use Rattle.record.specs.Answers.{recorded}
 use Rattle.record.specs.declared.RecordAt.the-variants.{Stop}
 

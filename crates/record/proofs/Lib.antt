@@ -1,8 +1,5 @@
-pub mod After
-pub mod Ends
 pub mod Flags
 pub mod Frauds
 pub mod Items
 pub mod Meaning
 pub mod Pinned
-pub mod Rows

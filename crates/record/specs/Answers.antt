@@ -2,7 +2,6 @@
 use Prim.Native.Nat.{ℕ}
 use Rattle.fields.specs.Fields.{Parsed, got, stop}
 use Rattle.fields.specs.Answers.{number}
-use Rattle.fields.specs.declared.string.Span.{Span}
 use Rattle.record.specs.declared.head.Head.{Head}
 use Rattle.record.specs.declared.head.HeadAt.{HeadAt}
 use Rattle.record.specs.declared.head.HeadAt.the-variants as head
@@ -12,21 +11,10 @@ use Rattle.record.specs.declared.strings.StringsAt.the-variants as strin
 use Rattle.record.specs.declared.parties.Names.{Names}
 use Rattle.record.specs.declared.parties.NamesAt.{NamesAt}
 use Rattle.record.specs.declared.parties.NamesAt.the-variants as names
-use Rattle.record.specs.declared.lists.Row.{Row}
-use Rattle.record.specs.declared.lists.RowAt.{RowAt}
-use Rattle.record.specs.declared.lists.RowAt.the-variants as row
-use Rattle.record.specs.declared.extensions.KeyIds.{KeyIds}
-use Rattle.record.specs.declared.extensions.KeyIdsAt.{KeyIdsAt}
-use Rattle.record.specs.declared.extensions.KeyIdsAt.the-variants as ids
-use Rattle.record.specs.declared.extensions.Extensions.{Extensions}
-use Rattle.record.specs.declared.extensions.ExtensionsAt.{ExtensionsAt}
-use Rattle.record.specs.declared.extensions.ExtensionsAt.the-variants as extensions
 use Rattle.record.specs.declared.head.FlagsAt.{FlagsAt}
 use Rattle.record.specs.declared.head.FlagsAt.the-variants as flags
 use Rattle.record.specs.declared.head.DatesAt.{DatesAt}
 use Rattle.record.specs.declared.head.DatesAt.the-variants as dates
-use Rattle.record.specs.declared.extensions.OptionAt.{OptionAt}
-use Rattle.record.specs.declared.extensions.OptionAt.the-variants as option
 use Rattle.record.specs.declared.Record.{Record}
 use Rattle.record.specs.declared.RecordAt.{RecordAt}
 use Rattle.record.specs.declared.RecordAt.the-variants as whole
@@ -50,22 +38,6 @@ stringed (strings.Stop f) = stop (number f)
 abbrev pub named : NamesAt → Parsed Names
 named (names.Got v e) = got v e
 named (names.Stop f) = stop (number f)
-
-abbrev pub opted : OptionAt → Parsed Span
-opted (option.Got v e) = got v e
-opted (option.Stop f) = stop (number f)
-
-abbrev pub identified : KeyIdsAt → Parsed KeyIds
-identified (ids.Got v e) = got v e
-identified (ids.Stop f) = stop (number f)
-
-abbrev pub listed : RowAt → Parsed Row
-listed (row.Got v e) = got v e
-listed (row.Stop f) = stop (number f)
-
-abbrev pub extended : ExtensionsAt → Parsed Extensions
-extended (extensions.Got v e) = got v e
-extended (extensions.Stop f) = stop (number f)
 
 abbrev pub recorded : RecordAt → Parsed Record
 recorded (whole.Got v e) = got v e

@@ -5,8 +5,10 @@ use mathlib.Core.List.{List, []}
 use mathlib.Core.Option.{Option, none, some}
 use Rattle.fields.specs.Fields.{Parsed, got, stop, after, many, bytesOf}
 use Rattle.names.specs.Names.{Attr, nameP}
+use Rattle.lists.specs.Lists.{usageP, dnsNameP}
+use Rattle.extensions.specs.Extensions.{flag}
 use Rattle.record.specs.declared.Record.{Record}
-use Rattle.record.specs.Record.{flag, usageP, dnsNameP, recordP}
+use Rattle.record.specs.Record.{recordP}
 
 pub record Certificate : Type 0 where
   pub version : ℕ

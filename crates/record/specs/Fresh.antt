@@ -1,6 +1,6 @@
 -- The record that stands where none was read. Assumes nothing.
-use Rattle.record.specs.Record.{nowhere}
-use Rattle.record.specs.declared.lists.Row.{Row}
+use Rattle.lists.specs.declared.Row.{Row}
+use Rattle.extensions.specs.Extensions.{nowhere}
 use Rattle.record.specs.declared.Record.{Record}
 
 abbrev pub none-listed : Row

@@ -1,23 +1,19 @@
 // A certificate's record in a card file: the type with its limits, and the reader. A record that was read is numbers and places in
 // the file; nothing is copied out of it. What a file of records means is left to the crate above.
-mod extensions;
 mod head;
-mod lists;
 mod parties;
 mod strings;
 
-pub use extensions::Extensions;
+use extensions::Extensions;
 use extensions::ExtensionsAt;
-pub use extensions::KeyIds;
+use extensions::KeyIds;
 use extensions::extensions_at;
 use fields::Fault;
 use fields::Span;
 pub use head::Head;
 use head::HeadAt;
 use head::head_at;
-pub use lists::Row;
-pub use lists::dns_name;
-pub use lists::usage;
+use lists::Row;
 pub use parties::Names;
 use parties::NamesAt;
 use parties::names_at;
@@ -45,24 +41,6 @@ impl Record {
     pub const ALGORITHM_LEAST: usize = 1;
 
     pub const ALGORITHM_MOST: usize = 32;
-
-    pub const KEY_ID_LEAST: usize = 1;
-
-    pub const KEY_ID_MOST: usize = 64;
-
-    pub const USAGES_LEAST: usize = 0;
-
-    pub const USAGES_MOST: usize = 8;
-
-    pub const USAGE_MOST: usize = 7;
-
-    pub const DNS_NAMES_LEAST: usize = 0;
-
-    pub const DNS_NAMES_MOST: usize = 32;
-
-    pub const DNS_NAME_LEAST: usize = 1;
-
-    pub const DNS_NAME_MOST: usize = 253;
 
     // The record that stands where none was read: nothing but zeros.
     pub fn new() -> Record
@@ -105,7 +83,7 @@ pub enum RecordAt {
     Stop(Fault),
 }
 
-// The record at a place.
+// The record at a place. Each arm returns, so that nothing is copied out of the matches.
 pub fn record_at(file: &[u8], at: usize) -> RecordAt
     ensures { λ r. ⌜ recorded r ≡ recordP (now (file .entry)) at ⌝ }
 {
@@ -113,21 +91,31 @@ pub fn record_at(file: &[u8], at: usize) -> RecordAt
         HeadAt::Got { head, next: a } => match strings_at(file, a) {
             StringsAt::Got { strings, next: b } => match names_at(file, b) {
                 NamesAt::Got { names, next: c } => match extensions_at(file, c, head.flags) {
-                    ExtensionsAt::Got { extensions, next } => RecordAt::Got {
-                        record: Record {
-                            head,
-                            strings,
-                            names,
-                            extensions,
-                        },
-                        next,
-                    },
-                    ExtensionsAt::Stop(fault) => RecordAt::Stop(fault),
+                    ExtensionsAt::Got { extensions, next } => {
+                        return RecordAt::Got {
+                            record: Record {
+                                head,
+                                strings,
+                                names,
+                                extensions,
+                            },
+                            next,
+                        };
+                    }
+                    ExtensionsAt::Stop(fault) => {
+                        return RecordAt::Stop(fault);
+                    }
                 },
-                NamesAt::Stop(fault) => RecordAt::Stop(fault),
+                NamesAt::Stop(fault) => {
+                    return RecordAt::Stop(fault);
+                }
             },
-            StringsAt::Stop(fault) => RecordAt::Stop(fault),
+            StringsAt::Stop(fault) => {
+                return RecordAt::Stop(fault);
+            }
         },
-        HeadAt::Stop(fault) => RecordAt::Stop(fault),
+        HeadAt::Stop(fault) => {
+            return RecordAt::Stop(fault);
+        }
     }
 }

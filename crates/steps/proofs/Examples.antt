@@ -25,6 +25,10 @@ none = record { count = 0; good = λ p r. false }
 abbrev two : Roots
 two = record { count = 2; good = λ p r. eqb r 1 && ltb 0 (last 0 p) }
 
+-- the one root issued the leaf
+abbrev leaf : Roots
+leaf = record { count = 1; good = λ p r. eqb (last 0 p) 0 }
+
 module _ (w : Roots) (k : ℕ) where
   only : (o : Outcome) → Settles three w k o → o ≡ found three w k
   only o s = settles-unique three w k o (found three w k) s (settles three w k (omega arith))
@@ -42,6 +46,11 @@ four o s = only none 4 o s
 first : (o : Outcome) → Settles three two 9 o → o ≡ accepted (0 ∷ 2 ∷ []) 1 2
 unfolding read seek flatMap next kids walk visit
 first o s = only two 9 o s
+
+-- the leaf alone
+alone : (o : Outcome) → Settles three leaf 9 o → o ≡ accepted (0 ∷ []) 0 1
+unfolding read seek flatMap next kids walk visit
+alone o s = only leaf 9 o s
 
 -- after one step the leaf's two children wait, the larger place first
 one-step : (ws : List (List ℕ)) → After three 1 ws → ws ≡ (0 ∷ 2 ∷ []) ∷ (0 ∷ 1 ∷ []) ∷ []
@@ -68,6 +77,20 @@ invented-steps s = omega (arith, ap steps (first (accepted (0 ∷ 2 ∷ []) 1 3)
 -- places 1 and 2 taken for one, as if their records were the same
 merged : ¬ Settles three none 5 (refused 2)
 merged s = omega (arith, ap steps (five (refused 2) s))
+
+-- a chain that no root issued
+any-chain : ¬ Settles three two 9 (accepted (0 ∷ []) 1 1)
+any-chain s =
+    let e : accepted (0 ∷ []) 1 1 ≡ accepted (0 ∷ 2 ∷ []) 1 2 = first (accepted (0 ∷ []) 1 1) s in
+    let z : _≡_ {A = ℕ} 1 2 = cc in omega arith
+
+-- one chain shown for both sets of roots
+same-chain : (p : List ℕ) (r s i t : ℕ) → Settles three two 9 (accepted p r s) → ¬ Settles three leaf 9 (accepted p i t)
+same-chain p r s i t a b =
+    let e : accepted p r s ≡ accepted (0 ∷ 2 ∷ []) 1 2 = first (accepted p r s) a in
+    let f : accepted p i t ≡ accepted (0 ∷ []) 0 1 = alone (accepted p i t) b in
+    let z : _≡_ {A = List ℕ} (0 ∷ 2 ∷ []) (0 ∷ []) = cc in
+    omega (arith, ap length z)
 
 -- root 0 tried and no other
 first-root-only : ¬ Settles three two 9 (refused 5)

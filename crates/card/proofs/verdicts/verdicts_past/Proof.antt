@@ -2,7 +2,7 @@
 use borrow.Author.Needs.{needs}
 use mathlib.Core.Path.{refl, sym, ap, _∙_}
 use Rattle.fields.specs.Answers.{passed}
-use Rattle.record.proofs.Rows.{Left, row-next, row-stops, row-ends}
+use Rattle.lists.proofs.Rows.{Left, row-next, row-stops, row-ends}
 use Rattle.card.specs.Card.{verdictP}
 use Rattle.card.proofs.verdicts.verdicts_past.Statement.{statement}
 use Rattle.card.proofs.verdicts.verdicts_past.Tie as tie

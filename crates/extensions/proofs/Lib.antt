@@ -1,0 +1,2 @@
+pub mod Meaning
+pub mod Pinned

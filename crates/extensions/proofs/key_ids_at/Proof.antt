@@ -1,0 +1,100 @@
+-- `key_ids_at` answers the parts that flags 1, 2 and 4 announce, one after the other, or the first fault.
+-- A letter is the place after a part's call, and primed the place where the part was found. Assumes nothing.
+use borrow.Author.Needs.{needs}
+use mathlib.Core.Path.{sym, ap, _∙_}
+use native.Mathlib.Nat.{div-one}
+use Rattle.extensions.specs.Extensions.{flag, keyIdsP}
+use Rattle.extensions.specs.Answers.{opted}
+use Rattle.extensions.proofs.key_ids_at.Statement.{statement}
+use Rattle.extensions.proofs.key_ids_at.Tie as tie
+
+option-at-requires : tie.Need-option-at-requires
+option-at-requires c κs = search needs
+
+enum-known-authority : tie.Need-enum-known-authority
+enum-known-authority c = search needs
+
+option-at-requires-2 : tie.Need-option-at-requires-2
+option-at-requires-2 c κs = search needs
+
+enum-known-authority-serial : tie.Need-enum-known-authority-serial
+enum-known-authority-serial c = search needs
+
+option-at-requires-3 : tie.Need-option-at-requires-3
+option-at-requires-3 c κs = search needs
+
+enum-known-subject : tie.Need-enum-known-subject
+enum-known-subject c = search needs
+
+returns : tie.Need-returns
+unfolding keyIdsP flag
+returns c =
+    let s = c .before .before .before in
+    let r' = s .before .before in
+    let r = r' .before .before in
+    let a' = r .before .before in
+    let a = a' .before .before in
+    rw (
+      div-one,
+      sym (a .option-at .ensures) ∙ ap opted (a' .authority .given .1),
+      sym (r .option-at2 .ensures) ∙ ap opted (r' .authority-serial .given .1),
+      sym (s .option-at3 .ensures) ∙ ap opted (c .before .subject .given .1),
+    )
+
+enum-known-fault : tie.Need-enum-known-fault
+enum-known-fault c = search needs
+
+returns-2 : tie.Need-returns-2
+unfolding keyIdsP flag
+returns-2 c =
+    let s = c .before .before .before in
+    let r' = s .before .before in
+    let r = r' .before .before in
+    let a' = r .before .before in
+    let a = a' .before .before in
+    rw (
+      div-one,
+      sym (a .option-at .ensures) ∙ ap opted (a' .authority .given .1),
+      sym (r .option-at2 .ensures) ∙ ap opted (r' .authority-serial .given .1),
+      sym (s .option-at3 .ensures) ∙ ap opted (c .before .fault .given .1),
+    )
+
+enum-known-fault-2 : tie.Need-enum-known-fault-2
+enum-known-fault-2 c = search needs
+
+returns-3 : tie.Need-returns-3
+unfolding keyIdsP flag
+returns-3 c =
+    let r = c .before .before .before in
+    let a' = r .before .before in
+    let a = a' .before .before in
+    rw (
+      div-one,
+      sym (a .option-at .ensures) ∙ ap opted (a' .authority .given .1),
+      sym (r .option-at2 .ensures) ∙ ap opted (c .before .fault2 .given .1),
+    )
+
+enum-known-fault-3 : tie.Need-enum-known-fault-3
+enum-known-fault-3 c = search needs
+
+returns-4 : tie.Need-returns-4
+unfolding keyIdsP flag
+returns-4 c = rw (div-one, sym (c .before .before .before .option-at .ensures) ∙ ap opted (c .before .fault3 .given .1))
+
+pub key-ids-at-spec : {M : Type 1} → statement M
+key-ids-at-spec =
+    tie.close
+    (tie.spec
+    option-at-requires
+    enum-known-authority
+    option-at-requires-2
+    enum-known-authority-serial
+    option-at-requires-3
+    enum-known-subject
+    returns
+    enum-known-fault
+    returns-2
+    enum-known-fault-2
+    returns-3
+    enum-known-fault-3
+    returns-4)

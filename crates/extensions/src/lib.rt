@@ -1,0 +1,166 @@
+// What a certificate's record has behind its names: key ids and a path length by its flags, and its lists. What was read is numbers and
+// places in the file. Which flags a record has, and what stands before, is left to the crate above.
+use fields::CountAt;
+use fields::Fault;
+use fields::Span;
+use fields::StringAt;
+use fields::count_at;
+use fields::string_at;
+use lists::Row;
+use lists::RowAt;
+use lists::dns_names_at;
+use lists::usages_at;
+ghost use mathlib.Core.Path.{_≡_};
+ghost use Rattle.fields.specs.Answers.{counted};
+ghost use Rattle.extensions.specs.Extensions.{optionP, keyIdsP, pathLengthP, extensionsP};
+ghost use Rattle.extensions.specs.Answers.{opted, identified, extended};
+
+// Key ids and the authority's serial; a part whose flag is not set stands nowhere.
+pub struct KeyIds {
+    pub authority: Span,
+    pub authority_serial: Span,
+    pub subject: Span,
+}
+
+impl KeyIds {
+    pub const KEY_ID_LEAST: usize = 1;
+
+    pub const KEY_ID_MOST: usize = 64;
+
+    pub const SERIAL_MOST: usize = 20;
+}
+
+pub struct Extensions {
+    pub key_ids: KeyIds,
+    pub path_length: usize,
+    pub usages: Row,
+    pub dns_names: Row,
+}
+
+pub enum ExtensionsAt {
+    Got { extensions: Extensions, next: usize },
+    Stop(Fault),
+}
+
+enum KeyIdsAt {
+    Got { key_ids: KeyIds, next: usize },
+    Stop(Fault),
+}
+
+enum OptionAt {
+    Got { span: Span, next: usize },
+    Stop(Fault),
+}
+
+// The extensions at a place, of a record with such flags. Each arm returns, so that nothing is copied out of the matches.
+pub fn extensions_at(file: &[u8], at: usize, flags: usize) -> ExtensionsAt
+    ensures { λ r. ⌜ extended r ≡ extensionsP flags (now (file .entry)) at ⌝ }
+{
+    match key_ids_at(file, at, flags) {
+        KeyIdsAt::Got { key_ids, next: a } => match path_length_at(file, a, flags) {
+            CountAt::Got {
+                count: path_length,
+                next: b,
+            } => match usages_at(file, b) {
+                RowAt::Got { row: uses, next: c } => match dns_names_at(file, c) {
+                    RowAt::Got { row: names, next } => {
+                        return ExtensionsAt::Got {
+                            extensions: Extensions {
+                                key_ids,
+                                path_length,
+                                usages: uses,
+                                dns_names: names,
+                            },
+                            next,
+                        };
+                    }
+                    RowAt::Stop(fault) => {
+                        return ExtensionsAt::Stop(fault);
+                    }
+                },
+                RowAt::Stop(fault) => {
+                    return ExtensionsAt::Stop(fault);
+                }
+            },
+            CountAt::Stop(fault) => {
+                return ExtensionsAt::Stop(fault);
+            }
+        },
+        KeyIdsAt::Stop(fault) => {
+            return ExtensionsAt::Stop(fault);
+        }
+    }
+}
+
+// Authority key id by flag 1, authority serial by flag 2, subject key id by flag 4.
+fn key_ids_at(file: &[u8], at: usize, flags: usize) -> KeyIdsAt
+    ensures { λ r. ⌜ identified r ≡ keyIdsP flags (now (file .entry)) at ⌝ }
+{
+    match option_at(file, at, flags % 2 == 1, KeyIds::KEY_ID_MOST) {
+        OptionAt::Got {
+            span: authority,
+            next: a,
+        } => match option_at(file, a, flags / 2 % 2 == 1, KeyIds::SERIAL_MOST) {
+            OptionAt::Got {
+                span: authority_serial,
+                next: b,
+            } => match option_at(file, b, flags / 4 % 2 == 1, KeyIds::KEY_ID_MOST) {
+                OptionAt::Got {
+                    span: subject,
+                    next,
+                } => {
+                    return KeyIdsAt::Got {
+                        key_ids: KeyIds {
+                            authority,
+                            authority_serial,
+                            subject,
+                        },
+                        next,
+                    };
+                }
+                OptionAt::Stop(fault) => {
+                    return KeyIdsAt::Stop(fault);
+                }
+            },
+            OptionAt::Stop(fault) => {
+                return KeyIdsAt::Stop(fault);
+            }
+        },
+        OptionAt::Stop(fault) => {
+            return KeyIdsAt::Stop(fault);
+        }
+    }
+}
+
+// The path length by flag 16; 0 where there is none.
+fn path_length_at(file: &[u8], at: usize, flags: usize) -> CountAt
+    ensures { λ r. ⌜ counted r ≡ pathLengthP flags (now (file .entry)) at ⌝ }
+{
+    if flags / 16 % 2 == 1 {
+        return count_at(file, at, 0, 255);
+    }
+    CountAt::Got { count: 0, next: at }
+}
+
+// A string of at least one byte where it is present; nothing is read where it is not.
+fn option_at(file: &[u8], at: usize, present: bool, most: usize) -> OptionAt
+    ensures { λ r. ⌜ opted r ≡ optionP present most (now (file .entry)) at ⌝ }
+{
+    if present {
+        match string_at(file, at, KeyIds::KEY_ID_LEAST, most) {
+            StringAt::Got(span) => {
+                return OptionAt::Got {
+                    span,
+                    next: span.end,
+                };
+            }
+            StringAt::Stop(fault) => {
+                return OptionAt::Stop(fault);
+            }
+        }
+    }
+    OptionAt::Got {
+        span: Span { start: 0, end: 0 },
+        next: at,
+    }
+}

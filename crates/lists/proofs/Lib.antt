@@ -1,0 +1,4 @@
+pub mod Items
+pub mod Meaning
+pub mod Pinned
+pub mod Rows

@@ -1,0 +1,27 @@
+-- A record's lists as they stand in a card file: a count within its limit, then so many usages or DNS names, judged from left to
+-- right; and one thing of a list (docs/CARD-FILE.md, "Record"). Assumes nothing.
+use Prim.Native.Nat.{ℕ}
+use mathlib.Core.Bool.{cond}
+use mathlib.Core.List.{List}
+use lib.Dec.{leb, ltb}
+use Rattle.fields.specs.Fields.{Parsed, got, stop, after, countP, byteP, stringP, many}
+use Rattle.lists.specs.declared.Row.{Row}
+
+-- a usage: a byte 0..7, judged when it is read
+unfoldable pub usageP : List ℕ → ℕ → Parsed ℕ
+usageP s at = after (byteP s at) (λ u e. cond (leb u 7) (got u e) (stop 8))
+
+-- a DNS name: 1..253 bytes
+unfoldable pub dnsNameP : List ℕ → ℕ → Parsed (List ℕ)
+dnsNameP = stringP 1 253
+
+-- how many things a list has, and where the first one stands
+unfoldable pub rowP : {A : Type 0} → ℕ → (List ℕ → ℕ → Parsed A) → List ℕ → ℕ → Parsed Row
+rowP most p s at =
+    after (countP 0 most s at) (λ n e.
+    after (many p n s e) (λ _ f.
+    got (record { count = n; first = e }) f))
+
+-- thing i of a list, by q, where those before it are read by p; a bad count where the list is shorter
+unfoldable pub itemP : {A B : Type 0} → (List ℕ → ℕ → Parsed A) → (List ℕ → ℕ → Parsed B) → Row → ℕ → List ℕ → Parsed B
+itemP p q row i s = cond (ltb i (row .count)) (after (many p i s (row .first)) (λ _ e. q s e)) (stop 7)

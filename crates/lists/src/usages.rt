@@ -1,0 +1,88 @@
+// A list of usages: a count, then a byte for each.
+use crate::Row;
+use crate::RowAt;
+use fields::CountAt;
+use fields::Fault;
+use fields::Past;
+use fields::count_at;
+ghost use mathlib.Core.Path.{_≡_};
+ghost use Rattle.fields.specs.Fields.{many};
+ghost use Rattle.fields.specs.Answers.{counted, passed, passing};
+ghost use Rattle.lists.specs.Lists.{usageP, rowP, itemP};
+ghost use Rattle.lists.specs.Answers.{listed};
+
+// The usages at a place.
+pub fn usages_at(file: &[u8], at: usize) -> RowAt
+    ensures { λ r. ⌜ listed r ≡ rowP 8 usageP (now (file .entry)) at ⌝ }
+{
+    match count_at(file, at, Row::USAGES_LEAST, Row::USAGES_MOST) {
+        CountAt::Got { count, next: first } => match usages_past(file, first, count) {
+            Past::Got(next) => {
+                return RowAt::Got {
+                    row: Row { count, first },
+                    next,
+                };
+            }
+            Past::Stop(fault) => {
+                return RowAt::Stop(fault);
+            }
+        },
+        CountAt::Stop(fault) => {
+            return RowAt::Stop(fault);
+        }
+    }
+}
+
+// Usage i of a record's usages.
+pub fn usage(file: &[u8], usages: Row, i: usize) -> CountAt
+    ensures { λ r. ⌜ counted r ≡ itemP usageP usageP usages i (now (file .entry)) ⌝ }
+{
+    if usages.count <= i {
+        return CountAt::Stop(Fault::BadCount);
+    }
+    match usages_past(file, usages.first, i) {
+        Past::Got(at) => {
+            return usage_at(file, at);
+        }
+        Past::Stop(fault) => {
+            return CountAt::Stop(fault);
+        }
+    }
+}
+
+// The place past n usages.
+fn usages_past(file: &[u8], first: usize, n: usize) -> Past
+    ensures { λ r. ⌜ passed r ≡ passing (many usageP n (now (file .entry)) first) ⌝ }
+{
+    let mut at = first;
+    let mut left = n;
+    while 0 < left {
+        match usage_at(file, at) {
+            CountAt::Got { count: _, next } => {
+                at = next;
+                left -= 1;
+            }
+            CountAt::Stop(fault) => {
+                return Past::Stop(fault);
+            }
+        }
+    }
+    Past::Got(at)
+}
+
+// A usage is a bad value above the last, judged when it is read.
+fn usage_at(file: &[u8], at: usize) -> CountAt
+    ensures { λ r. ⌜ counted r ≡ usageP (now (file .entry)) at ⌝ }
+{
+    match count_at(file, at, 0, 255) {
+        CountAt::Got { count: usage, next } => {
+            if Row::USAGE_MOST < usage {
+                return CountAt::Stop(Fault::BadValue);
+            }
+            return CountAt::Got { count: usage, next };
+        }
+        CountAt::Stop(fault) => {
+            return CountAt::Stop(fault);
+        }
+    }
+}

@@ -1,0 +1,20 @@
+-- What is written for a card file. Assumes nothing.
+use mathlib.Core.List.{List}
+use mathlib.Core.Path.{_≡_}
+use Prim.Native.Nat.{ℕ}
+use lib.ListN.{replicate}
+use Rattle.card.specs.Content.{Content}
+use Rattle.fields.specs.Fields.{Parsed}
+use Rattle.search.specs.Search.{Search}
+use Rattle.steps.specs.declared.Answer.{Answer}
+use Rattle.steps.specs.Answer.{told}
+use Rattle.report.specs.Lines.{lineOf, lineShown}
+use Rattle.report.specs.declared.line.Line.{Line}
+
+-- the line for a file that says x: what the search answers in a room of 106 slots, which are always enough
+pub record Replies (x : Parsed Content) (line : Line) : Type 0 where
+  pub answer : Answer
+  pub after : List ℕ
+  pub searched : Search x (replicate 1802 0) after answer
+  pub roomy : told (answer .reply) .number ≡ 10 → ⊥
+  pub written : line ≡ lineShown (lineOf answer)

@@ -1,0 +1,6 @@
+pub mod AnyOf
+pub mod Frauds
+pub mod Hosts
+pub mod LeafRead
+pub mod Lowering
+pub mod Things

@@ -1,0 +1,57 @@
+-- What is asked of one certificate (docs/CARD-FILE.md, "Policy"). Assumes nothing.
+use Prim.Native.Nat.{ℕ}
+use mathlib.Core.Bool.{Bool, true, false, not, _&&_, _||_}
+use mathlib.Core.List.{List, [], _∷_, map}
+use mathlib.Core.Option.{Option, none, some}
+use lib.Dec.{eqb, leb}
+use lib.ListN.{length}
+use Rattle.extensions.specs.Extensions.{flag}
+use Rattle.text.specs.Bytes.{lowered, same}
+use Rattle.text.specs.Wildcard.{matchName}
+use Rattle.record.specs.Certificate.{Certificate}
+
+-- one of these passes
+abbrev pub any : {A : Type 0} → (A → Bool) → List A → Bool
+any test [] = false
+any test (x ∷ l) = test x || any test l
+
+-- not-before ≤ now ≤ not-after
+unfoldable pub inDate : ℕ → Certificate → Bool
+inDate now c = leb (c .not-before) now && leb now (c .not-after)
+
+-- version 2 and equal algorithm strings
+unfoldable pub wellFormed : Certificate → Bool
+wellFormed c = eqb (c .version) 2 && same (c .outer) (c .inner)
+
+-- not flag 128
+unfoldable pub handled : Certificate → Bool
+handled c = not (flag 128 (c .flags))
+
+-- a CA, and where flag 32 is set, 64 is too
+unfoldable pub authority : Certificate → Bool
+authority c = flag 8 (c .flags) && (not (flag 32 (c .flags)) || flag 64 (c .flags))
+
+-- n is no more than a path length, where there is one
+abbrev pub atMost : ℕ → Option ℕ → Bool
+atMost n none = true
+atMost n (some p) = leb n p
+
+-- a path length, if there is one, lets n certificates stand between this one and the leaf
+unfoldable pub allows : ℕ → Certificate → Bool
+allows n c = atMost n (c .path-length)
+
+-- usage 0 (server) or 6 (any)
+unfoldable pub serving : ℕ → Bool
+serving u = eqb u 0 || eqb u 6
+
+-- no usage is listed, or one is 0 or 6
+unfoldable pub forServers : Certificate → Bool
+forServers c = eqb (length (c .usages)) 0 || any serving (c .usages)
+
+-- a DNS name matches a host, both lowered
+unfoldable pub names : List ℕ → List ℕ → Bool
+names host dns = matchName (map lowered dns) (map lowered host)
+
+-- if a host is asked, some DNS name matches it
+unfoldable pub forHost : List ℕ → Certificate → Bool
+forHost host c = eqb (length host) 0 || any (names host) (c .dns-names)

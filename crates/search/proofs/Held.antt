@@ -1,0 +1,40 @@
+-- What the paused run leaves is pinned for every k: the paths that wait after the steps it tells (`waiting-pinned`), never more than the
+-- table's slots (`waiting-few`). Assumes nothing.
+use mathlib.Core.List.{List}
+use mathlib.Core.Path.{_≡_, refl, ap, _∙_}
+use Prim.Native.Nat.{ℕ, _≤_}
+use lib.ListN.{length}
+use Rattle.fields.specs.Fields.{got}
+use Rattle.card.specs.Content.{Content, contentP}
+use Rattle.order.specs.Slots.{slotsOf}
+use Rattle.order.specs.Waiting.{After}
+use Rattle.order.proofs.Waiting.{after-unique}
+use Rattle.steps.specs.declared.Answer.{Answer}
+use Rattle.steps.specs.Answer.{told, saying, Paused, fault}
+use Rattle.steps.specs.Room.{Holds, holding}
+use Rattle.steps.specs.Settles.{Outcome, accepted, refused, exhausted, steps}
+use Rattle.search.specs.Search.{placesIn, rootsIn, Pause}
+
+steps-said : (o : Outcome) → saying o .steps ≡ steps o
+steps-said (accepted p r s) = refl
+steps-said (refused s) = refl
+steps-said (exhausted s) = refl
+
+module _ (s before after : List ℕ) (k : ℕ) (a : Answer) (x : Pause (contentP s) k before after a)
+    (c : Content) (e : ℕ) (says : contentP s ≡ got c e) (free : fault (length (c .bundle)) (length before) ≡ 0)
+  where
+    runs : Paused (placesIn c) (rootsIn c) k before after a
+    runs = (rw says at x) .runs free
+
+    holds : Holds (placesIn c) (told (a .reply) .steps) before after
+    holds = rw (runs .tells .says, steps-said (runs .outcome)) (runs .holds)
+
+    module _ (ws : List (List ℕ)) (wait : After (placesIn c) (told (a .reply) .steps) ws) where
+      same : holds .waiting ≡ ws
+      same = after-unique (placesIn c) (holds .order) wait
+
+      pub waiting-pinned : after ≡ holding (length (c .bundle)) ws before
+      waiting-pinned = holds .room ∙ ap (λ v. holding (length (c .bundle)) v before) same
+
+      pub waiting-few : length ws ≤ slotsOf (length (c .bundle))
+      waiting-few = rw same at (holds .fits)

@@ -1,0 +1,38 @@
+-- `question_in` puts what was read: its parts are what the functions below promise. Assumes nothing.
+use mathlib.Core.Path.{refl}
+use borrow.Author.Needs.{needs}
+use Rattle.search.proofs.question_in.Statement.{statement}
+use Rattle.search.proofs.question_in.Tie as tie
+
+read-requires : tie.Need-read-requires
+read-requires c κs = search needs
+
+size-requires : tie.Need-size-requires
+size-requires c κs = search needs
+
+who-issued-requires : tie.Need-who-issued-requires
+who-issued-requires c κs = search needs
+
+judge-requires : tie.Need-judge-requires
+judge-requires c κs = search needs
+
+returns : tie.Need-returns
+returns c =
+    let issued = c .before .who-issued in
+    let sized = c .before .before .size in
+    let reading = c .before .before .before .before .read in
+    record {
+      card = reading .result .card;
+      read = reading .ensures;
+      size = sized .ensures;
+      bundle = issued .ensures .0;
+      roots = issued .ensures .1;
+      sound = c .judge .ensures .0;
+      limits = c .judge .ensures .1 .0;
+      above = c .judge .ensures .1 .1 .0;
+      tops = c .judge .ensures .1 .1 .1;
+      budget = refl;
+    }
+
+pub question-in-spec : {M : Type 1} → statement M
+question-in-spec = tie.close (tie.spec read-requires size-requires who-issued-requires judge-requires returns)
