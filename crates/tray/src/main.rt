@@ -1,4 +1,4 @@
-// Answers the cases of standard input on the search through whole card files, a line each: the label, the reply, the path and the room.
+// Answers the cases of standard input on the search through whole card files, a line each.
 // What each line must be stands in the file stdout beside this folder, written by hand from the paper; the cases stand in the file stdin.
 //
 // A line is a case and ends in a newline, its fields stand between bars:
@@ -9,8 +9,8 @@
 // CARD is a whole card file, in words: bytes as two digits each, 0 to 9 and A to F. A word 3*0102 stands for 010201020102.
 // Empty lines and lines that begin with # are skipped. What is over 4,096 bytes of a card, or 65,536 of the input, is not read.
 //
-// An answer is the reply's number, in 0 with the root, in 0 to 2 with the steps; then the path, as the slot that would hold it, and the room as the
-// search leaves it. Of slots are written: the paths in the lowest ones; then how many bytes are zero, how many are # and how many are left.
+// An answer is the label, the line that the terminal writes for such an answer, and the lent room as the search leaves it: the paths in its lowest slots,
+// then how many bytes are zero, how many are # and how many are left.
 mod ask;
 mod lines;
 mod show;

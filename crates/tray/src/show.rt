@@ -1,9 +1,9 @@
-// What is written of a case: its label and the reply, and the path and the room as slots.
+// What is written of a case: its label, the terminal's line, and the room as slots.
+use crate::lines::end_at;
 use card::Bundle;
 use libc::STDOUT_FILENO;
+use report::line_of;
 use steps::Answer;
-use steps::Path;
-use steps::Reply;
 ghost use Prim.Native.Nat.{_≤_};
 ghost use lib.ListN.{length};
 
@@ -12,58 +12,19 @@ const SLOT: usize = Bundle::MOST + 1;
 
 pub fn answer(label: &[u8], answer: Answer, room: &[u8]) {
     put(label);
-    let reply = answer.reply;
-    told(reply);
-    path_told(answer.path);
-    room_told(room);
-}
-
-fn told(reply: Reply) {
-    match reply {
-        Reply::Accepted { root, steps } => accepted(root.0 as u64, steps),
-        Reply::Refused { steps } => stepped(1, steps),
-        Reply::Exhausted { steps } => stepped(2, steps),
-        Reply::EmptyChain => numbered(3),
-        Reply::Unread(fault) => numbered(fault.number() as u64),
-        Reply::NoRoom => numbered(10),
-    }
-}
-
-fn accepted(root: u64, steps: u64) {
-    count(b": 0, root ", root);
-    count(b", steps ", steps);
-}
-
-fn stepped(reply: u64, steps: u64) {
-    numbered(reply);
-    count(b", steps ", steps);
-}
-
-fn numbered(reply: u64) {
-    count(b": ", reply);
-}
-
-fn path_told(path: Path) {
-    put(b", path:");
-    slots(&slot_of(path));
-}
-
-fn room_told(room: &[u8]) {
+    put(b": ");
+    reply(answer);
     put(b", room:");
     slots(room);
     put(b"\n");
 }
 
-// The slot that would hold a path.
-fn slot_of(path: Path) -> [u8; SLOT] {
-    let places = path.places;
-    let mut slot = [path.length; SLOT];
-    let mut i = 1;
-    while i < SLOT {
-        slot[i] = places[i - 1].0;
-        i += 1;
-    }
-    slot
+// Writes the terminal's line for an answer, up to its newline.
+fn reply(answer: Answer) {
+    let line = line_of(answer);
+    let bytes = line.bytes;
+    let end = end_at(&bytes, 0, b'\n');
+    put(&bytes[0..end]);
 }
 
 // Writes the paths in the lowest slots; then how many bytes are zero, how many are as they were lent, and how many are left.
