@@ -111,9 +111,11 @@ fn edition_past(file: &[u8]) -> Past
             if edition == Card::EDITION {
                 return Past::Got(next);
             }
-            Past::Stop(Fault::UnknownEdition)
+            return Past::Stop(Fault::UnknownEdition);
         }
-        CountAt::Stop(fault) => Past::Stop(fault),
+        CountAt::Stop(fault) => {
+            return Past::Stop(fault);
+        }
     }
 }
 
@@ -126,9 +128,11 @@ fn end_after(file: &[u8], past: Past) -> Past
             if at < file.len() {
                 return Past::Stop(Fault::LeftOver);
             }
-            Past::Got(at)
+            return Past::Got(at);
         }
-        Past::Stop(fault) => Past::Stop(fault),
+        Past::Stop(fault) => {
+            return Past::Stop(fault);
+        }
     }
 }
 

@@ -66,8 +66,12 @@ pub(crate) fn task_after(file: &[u8], past: Past) -> TaskRead
     ensures { λ r. ⌜ held (r .past) (r .task) ≡ after (passed past) (λ _ at. taskP (now (file .entry)) at) ⌝ }
 {
     match past {
-        Past::Got(at) => task_at(file, at),
-        Past::Stop(fault) => no_task(fault),
+        Past::Got(at) => {
+            return task_at(file, at);
+        }
+        Past::Stop(fault) => {
+            return no_task(fault);
+        }
     }
 }
 
@@ -81,19 +85,27 @@ fn task_at(file: &[u8], at: usize) -> TaskRead
             next: a,
         } => match purpose_at(file, a) {
             Past::Got(b) => match string_at(file, b, Host::LEAST, Host::MOST) {
-                StringAt::Got(name) => TaskRead {
-                    past: Past::Got(name.end),
-                    task: Task {
-                        now,
-                        budget,
-                        host: Host { name },
-                    },
-                },
-                StringAt::Stop(fault) => no_task(fault),
+                StringAt::Got(name) => {
+                    return TaskRead {
+                        past: Past::Got(name.end),
+                        task: Task {
+                            now,
+                            budget,
+                            host: Host { name },
+                        },
+                    };
+                }
+                StringAt::Stop(fault) => {
+                    return no_task(fault);
+                }
             },
-            Past::Stop(fault) => no_task(fault),
+            Past::Stop(fault) => {
+                return no_task(fault);
+            }
         },
-        TimesAt::Stop(fault) => no_task(fault),
+        TimesAt::Stop(fault) => {
+            return no_task(fault);
+        }
     }
 }
 
@@ -110,12 +122,20 @@ fn times_at(file: &[u8], at: usize) -> TimesAt
                 NumberAt::Got {
                     value: budget,
                     next,
-                } => TimesAt::Got { now, budget, next },
-                NumberAt::Stop(fault) => TimesAt::Stop(fault),
+                } => {
+                    return TimesAt::Got { now, budget, next };
+                }
+                NumberAt::Stop(fault) => {
+                    return TimesAt::Stop(fault);
+                }
             },
-            NumberAt::Stop(fault) => TimesAt::Stop(fault),
+            NumberAt::Stop(fault) => {
+                return TimesAt::Stop(fault);
+            }
         },
-        CountAt::Stop(fault) => TimesAt::Stop(fault),
+        CountAt::Stop(fault) => {
+            return TimesAt::Stop(fault);
+        }
     }
 }
 
@@ -131,9 +151,11 @@ fn purpose_at(file: &[u8], at: usize) -> Past
             if purpose == Task::SERVER {
                 return Past::Got(next);
             }
-            Past::Stop(Fault::BadValue)
+            return Past::Stop(Fault::BadValue);
         }
-        CountAt::Stop(fault) => Past::Stop(fault),
+        CountAt::Stop(fault) => {
+            return Past::Stop(fault);
+        }
     }
 }
 

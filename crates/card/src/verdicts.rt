@@ -113,11 +113,15 @@ pub(crate) fn verdicts_after(file: &[u8], past: Past, roots: u8, bundle: u8) -> 
                         },
                     };
                 }
-                no_verdicts(Fault::BadCount)
+                return no_verdicts(Fault::BadCount);
             }
-            NumberAt::Stop(fault) => no_verdicts(fault),
+            NumberAt::Stop(fault) => {
+                return no_verdicts(fault);
+            }
         },
-        Past::Stop(fault) => no_verdicts(fault),
+        Past::Stop(fault) => {
+            return no_verdicts(fault);
+        }
     }
 }
 
@@ -153,9 +157,11 @@ fn verdict_at(file: &[u8], at: usize) -> Past
             if Verdicts::YES < verdict {
                 return Past::Stop(Fault::BadValue);
             }
-            Past::Got(next)
+            return Past::Got(next);
         }
-        CountAt::Stop(fault) => Past::Stop(fault),
+        CountAt::Stop(fault) => {
+            return Past::Stop(fault);
+        }
     }
 }
 

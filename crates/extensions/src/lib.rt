@@ -52,7 +52,7 @@ enum OptionAt {
     Stop(Fault),
 }
 
-// The extensions at a place, of a record with such flags.
+// The extensions at a place, of a record with such flags. Each arm returns, so that nothing is copied out of the matches.
 pub fn extensions_at(file: &[u8], at: usize, flags: usize) -> ExtensionsAt
     ensures { λ r. ⌜ extended r ≡ extensionsP flags (now (file .entry)) at ⌝ }
 {
@@ -62,29 +62,33 @@ pub fn extensions_at(file: &[u8], at: usize, flags: usize) -> ExtensionsAt
                 count: path_length,
                 next: b,
             } => match usages_at(file, b) {
-                RowAt::Got {
-                    row: usages,
-                    next: c,
-                } => match dns_names_at(file, c) {
-                    RowAt::Got {
-                        row: dns_names,
-                        next,
-                    } => ExtensionsAt::Got {
-                        extensions: Extensions {
-                            key_ids,
-                            path_length,
-                            usages,
-                            dns_names,
-                        },
-                        next,
-                    },
-                    RowAt::Stop(fault) => ExtensionsAt::Stop(fault),
+                RowAt::Got { row: uses, next: c } => match dns_names_at(file, c) {
+                    RowAt::Got { row: names, next } => {
+                        return ExtensionsAt::Got {
+                            extensions: Extensions {
+                                key_ids,
+                                path_length,
+                                usages: uses,
+                                dns_names: names,
+                            },
+                            next,
+                        };
+                    }
+                    RowAt::Stop(fault) => {
+                        return ExtensionsAt::Stop(fault);
+                    }
                 },
-                RowAt::Stop(fault) => ExtensionsAt::Stop(fault),
+                RowAt::Stop(fault) => {
+                    return ExtensionsAt::Stop(fault);
+                }
             },
-            CountAt::Stop(fault) => ExtensionsAt::Stop(fault),
+            CountAt::Stop(fault) => {
+                return ExtensionsAt::Stop(fault);
+            }
         },
-        KeyIdsAt::Stop(fault) => ExtensionsAt::Stop(fault),
+        KeyIdsAt::Stop(fault) => {
+            return ExtensionsAt::Stop(fault);
+        }
     }
 }
 
@@ -104,19 +108,27 @@ fn key_ids_at(file: &[u8], at: usize, flags: usize) -> KeyIdsAt
                 OptionAt::Got {
                     span: subject,
                     next,
-                } => KeyIdsAt::Got {
-                    key_ids: KeyIds {
-                        authority,
-                        authority_serial,
-                        subject,
-                    },
-                    next,
-                },
-                OptionAt::Stop(fault) => KeyIdsAt::Stop(fault),
+                } => {
+                    return KeyIdsAt::Got {
+                        key_ids: KeyIds {
+                            authority,
+                            authority_serial,
+                            subject,
+                        },
+                        next,
+                    };
+                }
+                OptionAt::Stop(fault) => {
+                    return KeyIdsAt::Stop(fault);
+                }
             },
-            OptionAt::Stop(fault) => KeyIdsAt::Stop(fault),
+            OptionAt::Stop(fault) => {
+                return KeyIdsAt::Stop(fault);
+            }
         },
-        OptionAt::Stop(fault) => KeyIdsAt::Stop(fault),
+        OptionAt::Stop(fault) => {
+            return KeyIdsAt::Stop(fault);
+        }
     }
 }
 
@@ -135,13 +147,17 @@ fn option_at(file: &[u8], at: usize, present: bool, most: usize) -> OptionAt
     ensures { λ r. ⌜ opted r ≡ optionP present most (now (file .entry)) at ⌝ }
 {
     if present {
-        return match string_at(file, at, KeyIds::KEY_ID_LEAST, most) {
-            StringAt::Got(span) => OptionAt::Got {
-                span,
-                next: span.end,
-            },
-            StringAt::Stop(fault) => OptionAt::Stop(fault),
-        };
+        match string_at(file, at, KeyIds::KEY_ID_LEAST, most) {
+            StringAt::Got(span) => {
+                return OptionAt::Got {
+                    span,
+                    next: span.end,
+                };
+            }
+            StringAt::Stop(fault) => {
+                return OptionAt::Stop(fault);
+            }
+        }
     }
     OptionAt::Got {
         span: Span { start: 0, end: 0 },

@@ -19,13 +19,19 @@ pub fn dns_names_at(file: &[u8], at: usize) -> RowAt
 {
     match count_at(file, at, Row::DNS_NAMES_LEAST, Row::DNS_NAMES_MOST) {
         CountAt::Got { count, next: first } => match dns_names_past(file, first, count) {
-            Past::Got(next) => RowAt::Got {
-                row: Row { count, first },
-                next,
-            },
-            Past::Stop(fault) => RowAt::Stop(fault),
+            Past::Got(next) => {
+                return RowAt::Got {
+                    row: Row { count, first },
+                    next,
+                };
+            }
+            Past::Stop(fault) => {
+                return RowAt::Stop(fault);
+            }
         },
-        CountAt::Stop(fault) => RowAt::Stop(fault),
+        CountAt::Stop(fault) => {
+            return RowAt::Stop(fault);
+        }
     }
 }
 
@@ -37,8 +43,12 @@ pub fn dns_name(file: &[u8], names: Row, i: usize) -> StringAt
         return StringAt::Stop(Fault::BadCount);
     }
     match dns_names_past(file, names.first, i) {
-        Past::Got(at) => dns_name_at(file, at),
-        Past::Stop(fault) => StringAt::Stop(fault),
+        Past::Got(at) => {
+            return dns_name_at(file, at);
+        }
+        Past::Stop(fault) => {
+            return StringAt::Stop(fault);
+        }
     }
 }
 

@@ -17,13 +17,19 @@ pub fn usages_at(file: &[u8], at: usize) -> RowAt
 {
     match count_at(file, at, Row::USAGES_LEAST, Row::USAGES_MOST) {
         CountAt::Got { count, next: first } => match usages_past(file, first, count) {
-            Past::Got(next) => RowAt::Got {
-                row: Row { count, first },
-                next,
-            },
-            Past::Stop(fault) => RowAt::Stop(fault),
+            Past::Got(next) => {
+                return RowAt::Got {
+                    row: Row { count, first },
+                    next,
+                };
+            }
+            Past::Stop(fault) => {
+                return RowAt::Stop(fault);
+            }
         },
-        CountAt::Stop(fault) => RowAt::Stop(fault),
+        CountAt::Stop(fault) => {
+            return RowAt::Stop(fault);
+        }
     }
 }
 
@@ -35,8 +41,12 @@ pub fn usage(file: &[u8], usages: Row, i: usize) -> CountAt
         return CountAt::Stop(Fault::BadCount);
     }
     match usages_past(file, usages.first, i) {
-        Past::Got(at) => usage_at(file, at),
-        Past::Stop(fault) => CountAt::Stop(fault),
+        Past::Got(at) => {
+            return usage_at(file, at);
+        }
+        Past::Stop(fault) => {
+            return CountAt::Stop(fault);
+        }
     }
 }
 
@@ -69,8 +79,10 @@ fn usage_at(file: &[u8], at: usize) -> CountAt
             if Row::USAGE_MOST < usage {
                 return CountAt::Stop(Fault::BadValue);
             }
-            CountAt::Got { count: usage, next }
+            return CountAt::Got { count: usage, next };
         }
-        CountAt::Stop(fault) => CountAt::Stop(fault),
+        CountAt::Stop(fault) => {
+            return CountAt::Stop(fault);
+        }
     }
 }

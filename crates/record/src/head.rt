@@ -51,18 +51,24 @@ pub(crate) fn head_at(file: &[u8], at: usize) -> HeadAt
                 not_before,
                 not_after,
                 next,
-            } => HeadAt::Got {
-                head: Head {
-                    version,
-                    flags,
-                    not_before,
-                    not_after,
-                },
-                next,
-            },
-            DatesAt::Stop(fault) => HeadAt::Stop(fault),
+            } => {
+                return HeadAt::Got {
+                    head: Head {
+                        version,
+                        flags,
+                        not_before,
+                        not_after,
+                    },
+                    next,
+                };
+            }
+            DatesAt::Stop(fault) => {
+                return HeadAt::Stop(fault);
+            }
         },
-        FlagsAt::Stop(fault) => HeadAt::Stop(fault),
+        FlagsAt::Stop(fault) => {
+            return HeadAt::Stop(fault);
+        }
     }
 }
 
@@ -82,15 +88,19 @@ fn flags_at(file: &[u8], at: usize) -> FlagsAt
                 if flags / 32 % 2 < flags / 64 % 2 {
                     return FlagsAt::Stop(Fault::BadValue);
                 }
-                FlagsAt::Got {
+                return FlagsAt::Got {
                     version,
                     flags,
                     next,
-                }
+                };
             }
-            CountAt::Stop(fault) => FlagsAt::Stop(fault),
+            CountAt::Stop(fault) => {
+                return FlagsAt::Stop(fault);
+            }
         },
-        CountAt::Stop(fault) => FlagsAt::Stop(fault),
+        CountAt::Stop(fault) => {
+            return FlagsAt::Stop(fault);
+        }
     }
 }
 
@@ -105,13 +115,19 @@ fn dates_at(file: &[u8], at: usize) -> DatesAt
             NumberAt::Got {
                 value: not_after,
                 next,
-            } => DatesAt::Got {
-                not_before,
-                not_after,
-                next,
-            },
-            NumberAt::Stop(fault) => DatesAt::Stop(fault),
+            } => {
+                return DatesAt::Got {
+                    not_before,
+                    not_after,
+                    next,
+                };
+            }
+            NumberAt::Stop(fault) => {
+                return DatesAt::Stop(fault);
+            }
         },
-        NumberAt::Stop(fault) => DatesAt::Stop(fault),
+        NumberAt::Stop(fault) => {
+            return DatesAt::Stop(fault);
+        }
     }
 }

@@ -83,7 +83,7 @@ pub enum RecordAt {
     Stop(Fault),
 }
 
-// The record at a place.
+// The record at a place. Each arm returns, so that nothing is copied out of the matches.
 pub fn record_at(file: &[u8], at: usize) -> RecordAt
     ensures { λ r. ⌜ recorded r ≡ recordP (now (file .entry)) at ⌝ }
 {
@@ -91,21 +91,31 @@ pub fn record_at(file: &[u8], at: usize) -> RecordAt
         HeadAt::Got { head, next: a } => match strings_at(file, a) {
             StringsAt::Got { strings, next: b } => match names_at(file, b) {
                 NamesAt::Got { names, next: c } => match extensions_at(file, c, head.flags) {
-                    ExtensionsAt::Got { extensions, next } => RecordAt::Got {
-                        record: Record {
-                            head,
-                            strings,
-                            names,
-                            extensions,
-                        },
-                        next,
-                    },
-                    ExtensionsAt::Stop(fault) => RecordAt::Stop(fault),
+                    ExtensionsAt::Got { extensions, next } => {
+                        return RecordAt::Got {
+                            record: Record {
+                                head,
+                                strings,
+                                names,
+                                extensions,
+                            },
+                            next,
+                        };
+                    }
+                    ExtensionsAt::Stop(fault) => {
+                        return RecordAt::Stop(fault);
+                    }
                 },
-                NamesAt::Stop(fault) => RecordAt::Stop(fault),
+                NamesAt::Stop(fault) => {
+                    return RecordAt::Stop(fault);
+                }
             },
-            StringsAt::Stop(fault) => RecordAt::Stop(fault),
+            StringsAt::Stop(fault) => {
+                return RecordAt::Stop(fault);
+            }
         },
-        HeadAt::Stop(fault) => RecordAt::Stop(fault),
+        HeadAt::Stop(fault) => {
+            return RecordAt::Stop(fault);
+        }
     }
 }

@@ -21,15 +21,21 @@ pub(crate) fn names_at(file: &[u8], at: usize) -> NamesAt
 {
     match name_at(file, at) {
         Past::Got(subject) => match name_at(file, subject) {
-            Past::Got(next) => NamesAt::Got {
-                names: Names {
-                    issuer: at,
-                    subject,
-                },
-                next,
-            },
-            Past::Stop(fault) => NamesAt::Stop(fault),
+            Past::Got(next) => {
+                return NamesAt::Got {
+                    names: Names {
+                        issuer: at,
+                        subject,
+                    },
+                    next,
+                };
+            }
+            Past::Stop(fault) => {
+                return NamesAt::Stop(fault);
+            }
         },
-        Past::Stop(fault) => NamesAt::Stop(fault),
+        Past::Stop(fault) => {
+            return NamesAt::Stop(fault);
+        }
     }
 }

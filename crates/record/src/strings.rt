@@ -35,18 +35,26 @@ pub(crate) fn strings_at(file: &[u8], at: usize) -> StringsAt
                 Record::ALGORITHM_LEAST,
                 Record::ALGORITHM_MOST,
             ) {
-                StringAt::Got(inner) => StringsAt::Got {
-                    strings: Strings {
-                        serial,
-                        outer,
-                        inner,
-                    },
-                    next: inner.end,
-                },
-                StringAt::Stop(fault) => StringsAt::Stop(fault),
+                StringAt::Got(inner) => {
+                    return StringsAt::Got {
+                        strings: Strings {
+                            serial,
+                            outer,
+                            inner,
+                        },
+                        next: inner.end,
+                    };
+                }
+                StringAt::Stop(fault) => {
+                    return StringsAt::Stop(fault);
+                }
             },
-            StringAt::Stop(fault) => StringsAt::Stop(fault),
+            StringAt::Stop(fault) => {
+                return StringsAt::Stop(fault);
+            }
         },
-        StringAt::Stop(fault) => StringsAt::Stop(fault),
+        StringAt::Stop(fault) => {
+            return StringsAt::Stop(fault);
+        }
     }
 }

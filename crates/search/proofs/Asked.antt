@@ -2,7 +2,7 @@
 -- `held-paused`), and a file that can't be read is answered by why (`unread`). Assumes nothing.
 use mathlib.Core.List.{List, []}
 use mathlib.Core.Path.{_≡_, refl, sym, ap, ap₂, _∙_}
-use Prim.Native.Nat.{ℕ, _≤_, _<_}
+use Prim.Native.Nat.{ℕ, _<_}
 use native.Mathlib.Omega.{arith}
 use lib.ListN.{length}
 use Rattle.fields.specs.Answers.{number}
@@ -11,9 +11,8 @@ use Rattle.fields.specs.declared.fault.Fault.{Fault}
 use Rattle.fields.specs.declared.fault.Fault.the-variants.{UnknownEdition, TooLong, CutShort, BadCount, BadValue, LeftOver}
 use Rattle.card.specs.Answers.{numberOf, answer}
 use Rattle.card.specs.Card.{fileP}
-use Rattle.card.specs.Content.{Content, contentOf, contentP}
+use Rattle.card.specs.Content.{contentOf, contentP}
 use Rattle.card.specs.declared.Card.{Card}
-use Rattle.card.specs.declared.Outcome.{Outcome}
 use Rattle.card.specs.declared.Outcome.the-variants.{Read, Stop}
 use Rattle.card.proofs.Sections.{CardRead, card-read}
 use Rattle.card.proofs.Stops.{WasRead, answered-read}

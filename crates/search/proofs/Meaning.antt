@@ -1,15 +1,15 @@
 -- On a card that was read, the rows and judged places say what the content says: the same places (`places-read`), and for a simple path the
 -- same roots (`reaches-content`, `reaches-rows`). Assumes nothing.
-use mathlib.Core.Bool.{Bool, true, false, _&&_, false≢true}
+use mathlib.Core.Bool.{Bool, true, false, false≢true}
 use mathlib.Core.List.{List, [], _∷_, List·Memᴰ·head as here, List·Memᴰ·tail as there}
-use mathlib.Core.Path.{_≡_, refl, sym, ap, ap₂, _∙_, fun-ext}
-use Prim.Native.Nat.{ℕ, _≤_, _<_}
+use mathlib.Core.Path.{_≡_, refl, sym, ap₂, _∙_, fun-ext}
+use Prim.Native.Nat.{ℕ, _<_}
 use native.Mathlib.Omega.{arith}
 use borrow.Author.Tests.{lt-ltb, ltb-true, ltb-false}
 use lib.Dec.{ltb}
 use lib.ListN.{length}
 use Rattle.card.specs.Card.{sizeOf}
-use Rattle.card.specs.Content.{Content, contentOf, bundled}
+use Rattle.card.specs.Content.{Content, contentOf}
 use Rattle.card.specs.declared.Card.{Card}
 use Rattle.card.proofs.Sections.{CardRead}
 use Rattle.card.proofs.Standing.{roots-counted, roots-few, bundle-counted, bundle-few}
@@ -17,14 +17,14 @@ use Rattle.issuing.specs.Issued.{issued}
 use Rattle.issuing.specs.Records.{bundleRows, rootRows}
 use Rattle.issuing.proofs.Agrees.{size-is, bundle-row-agrees}
 use Rattle.order.specs.Listing.{_among_}
-use Rattle.order.specs.Paths.{Places, Simple}
+use Rattle.order.specs.Paths.{Simple}
 use Rattle.order.proofs.Simple.{simple-length}
 use Rattle.policy.specs.Judging.{lastOf}
 use Rattle.policy.specs.Qualifies.{qualifies}
 use Rattle.policy.specs.Sound.{soundPlaces, placeLimits, rootsAbove, rootLimits}
 use Rattle.policy.proofs.Qualified.{root-judged, qualifies-there, last-inside}
 use Rattle.policy.proofs.Seats.{Inside}
-use Rattle.steps.specs.Answer.{issuers, placesBy, rootsBy, qualifiesBy}
+use Rattle.steps.specs.Answer.{placesBy, rootsBy, qualifiesBy}
 use Rattle.steps.specs.Settles.{Roots, Reaches}
 use Rattle.search.specs.Search.{placesIn, rootsIn}
 

@@ -6,18 +6,18 @@ use mathlib.Core.Logic.{_≢_, _⊎_, inl, inr, _↔_}
 use mathlib.Core.Path.{_≡_, refl, sym, ap, _∙_}
 use Prim.Native.Nat.{ℕ, zero, suc, _-_, _≤_, _<_}
 use native.Mathlib.Omega.{arith}
-use lib.ListN.{length, getD}
+use lib.ListN.{length}
 use Rattle.fields.specs.Fields.{got}
 use Rattle.card.specs.Content.{Content, root, bundled, contentP}
 use Rattle.issuing.specs.Issued.{issued}
 use Rattle.order.specs.Listing.{_among_, Sorted, nil, cons}
-use Rattle.order.specs.Paths.{Places, Linked, Simple, Count}
+use Rattle.order.specs.Paths.{Linked, Simple, Count}
 use Rattle.policy.specs.Judging.{lastOf}
 use Rattle.policy.specs.Policy.{policy, chainOf}
-use Rattle.policy.specs.Qualifies.{reaches, qualifies}
+use Rattle.policy.specs.Qualifies.{reaches}
 use Rattle.steps.specs.declared.Answer.{Answer}
-use Rattle.steps.specs.Answer.{Told, told, saying, Tells, Searched, fault}
-use Rattle.steps.specs.Settles.{Roots, Reaches, Qualifies, Outcome, accepted, refused, exhausted, Settles}
+use Rattle.steps.specs.Answer.{told, saying, Searched, fault}
+use Rattle.steps.specs.Settles.{Reaches, Outcome, accepted, refused, exhausted, Settles}
 use Rattle.steps.proofs.Unique.{covers}
 use Rattle.search.specs.Search.{placesIn, rootsIn, Search}
 use Rattle.search.specs.Valid.{at, SimplePath, ToRoot, Satisfies, Valid}

@@ -9,7 +9,6 @@ use borrow.Author.Tests.{ltb-true, ltb-false}
 use lib.Dec.{ltb}
 use lib.ListN.{length}
 use Rattle.order.specs.Paths.{Places}
-use Rattle.order.specs.Waiting.{After}
 use Rattle.order.proofs.Bound.{after-fits}
 use Rattle.order.proofs.Waiting.{after-exists}
 use Rattle.steps.specs.declared.Answer.{Answer}

@@ -24,15 +24,15 @@ returns-2 c =
     let n = e .before .before in
     rw (le-leb _ _ (n .before .if1 .left), sym (n .count-at .ensures) ∙ ap counted (e .edition .given .1), eq-eqb _ _ (c .if2 .taken))
 
-enum-known-fault : tie.Need-enum-known-fault
-enum-known-fault c = search needs
-
 returns-3 : tie.Need-returns-3
 unfolding editionP byteP
 returns-3 c =
     let e = c .before .before in
     let n = e .before .before in
     rw (le-leb _ _ (n .before .if1 .left), sym (n .count-at .ensures) ∙ ap counted (e .edition .given .1), ne-eqb _ _ (c .if2 .left))
+
+enum-known-fault : tie.Need-enum-known-fault
+enum-known-fault c = search needs
 
 returns-4 : tie.Need-returns-4
 unfolding editionP byteP
@@ -48,6 +48,6 @@ edition-past-spec =
     count-at-requires
     enum-known-edition
     returns-2
-    enum-known-fault
     returns-3
+    enum-known-fault
     returns-4)

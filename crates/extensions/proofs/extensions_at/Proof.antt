@@ -24,26 +24,14 @@ enum-known-path-length c = search needs
 usages-at-requires : tie.Need-usages-at-requires
 usages-at-requires c κs = search needs
 
-enum-known-usages : tie.Need-enum-known-usages
-enum-known-usages c = search needs
+enum-known-uses : tie.Need-enum-known-uses
+enum-known-uses c = search needs
 
 dns-names-at-requires : tie.Need-dns-names-at-requires
 dns-names-at-requires c κs = search needs
 
-enum-known-dns-names : tie.Need-enum-known-dns-names
-enum-known-dns-names c = search needs
-
-enum-known-fault : tie.Need-enum-known-fault
-enum-known-fault c = search needs
-
-enum-known-fault-2 : tie.Need-enum-known-fault-2
-enum-known-fault-2 c = search needs
-
-enum-known-fault-3 : tie.Need-enum-known-fault-3
-enum-known-fault-3 c = search needs
-
-enum-known-fault-4 : tie.Need-enum-known-fault-4
-enum-known-fault-4 c = search needs
+enum-known-names : tie.Need-enum-known-names
+enum-known-names c = search needs
 
 returns : tie.Need-returns
 unfolding extensionsP
@@ -58,9 +46,12 @@ returns c =
     rw (
       sym (k .key-ids-at .ensures) ∙ ap identified (k' .key-ids .given .1),
       sym (p .path-length-at .ensures) ∙ ap counted (p' .path-length .given .1),
-      sym (u .usages-at .ensures) ∙ ap listed (u' .usages .given .1),
-      sym (d .dns-names-at .ensures) ∙ ap listed (c .before .dns-names .given .1),
+      sym (u .usages-at .ensures) ∙ ap listed (u' .uses .given .1),
+      sym (d .dns-names-at .ensures) ∙ ap listed (c .before .names .given .1),
     )
+
+enum-known-fault : tie.Need-enum-known-fault
+enum-known-fault c = search needs
 
 returns-2 : tie.Need-returns-2
 unfolding extensionsP
@@ -75,9 +66,12 @@ returns-2 c =
     rw (
       sym (k .key-ids-at .ensures) ∙ ap identified (k' .key-ids .given .1),
       sym (p .path-length-at .ensures) ∙ ap counted (p' .path-length .given .1),
-      sym (u .usages-at .ensures) ∙ ap listed (u' .usages .given .1),
+      sym (u .usages-at .ensures) ∙ ap listed (u' .uses .given .1),
       sym (d .dns-names-at .ensures) ∙ ap listed (c .before .fault .given .1),
     )
+
+enum-known-fault-2 : tie.Need-enum-known-fault-2
+enum-known-fault-2 c = search needs
 
 returns-3 : tie.Need-returns-3
 unfolding extensionsP
@@ -93,6 +87,9 @@ returns-3 c =
       sym (u .usages-at .ensures) ∙ ap listed (c .before .fault2 .given .1),
     )
 
+enum-known-fault-3 : tie.Need-enum-known-fault-3
+enum-known-fault-3 c = search needs
+
 returns-4 : tie.Need-returns-4
 unfolding extensionsP
 returns-4 c =
@@ -103,6 +100,9 @@ returns-4 c =
       sym (k .key-ids-at .ensures) ∙ ap identified (k' .key-ids .given .1),
       sym (p .path-length-at .ensures) ∙ ap counted (c .before .fault3 .given .1),
     )
+
+enum-known-fault-4 : tie.Need-enum-known-fault-4
+enum-known-fault-4 c = search needs
 
 returns-5 : tie.Need-returns-5
 unfolding extensionsP
@@ -117,15 +117,15 @@ extensions-at-spec =
     path-length-at-requires
     enum-known-path-length
     usages-at-requires
-    enum-known-usages
+    enum-known-uses
     dns-names-at-requires
-    enum-known-dns-names
-    enum-known-fault
-    enum-known-fault-2
-    enum-known-fault-3
-    enum-known-fault-4
+    enum-known-names
     returns
+    enum-known-fault
     returns-2
+    enum-known-fault-2
     returns-3
+    enum-known-fault-3
     returns-4
+    enum-known-fault-4
     returns-5)

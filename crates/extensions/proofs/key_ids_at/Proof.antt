@@ -26,15 +26,6 @@ option-at-requires-3 c κs = search needs
 enum-known-subject : tie.Need-enum-known-subject
 enum-known-subject c = search needs
 
-enum-known-fault : tie.Need-enum-known-fault
-enum-known-fault c = search needs
-
-enum-known-fault-2 : tie.Need-enum-known-fault-2
-enum-known-fault-2 c = search needs
-
-enum-known-fault-3 : tie.Need-enum-known-fault-3
-enum-known-fault-3 c = search needs
-
 returns : tie.Need-returns
 unfolding keyIdsP flag
 returns c =
@@ -49,6 +40,9 @@ returns c =
       sym (r .option-at2 .ensures) ∙ ap opted (r' .authority-serial .given .1),
       sym (s .option-at3 .ensures) ∙ ap opted (c .before .subject .given .1),
     )
+
+enum-known-fault : tie.Need-enum-known-fault
+enum-known-fault c = search needs
 
 returns-2 : tie.Need-returns-2
 unfolding keyIdsP flag
@@ -65,6 +59,9 @@ returns-2 c =
       sym (s .option-at3 .ensures) ∙ ap opted (c .before .fault .given .1),
     )
 
+enum-known-fault-2 : tie.Need-enum-known-fault-2
+enum-known-fault-2 c = search needs
+
 returns-3 : tie.Need-returns-3
 unfolding keyIdsP flag
 returns-3 c =
@@ -76,6 +73,9 @@ returns-3 c =
       sym (a .option-at .ensures) ∙ ap opted (a' .authority .given .1),
       sym (r .option-at2 .ensures) ∙ ap opted (c .before .fault2 .given .1),
     )
+
+enum-known-fault-3 : tie.Need-enum-known-fault-3
+enum-known-fault-3 c = search needs
 
 returns-4 : tie.Need-returns-4
 unfolding keyIdsP flag
@@ -91,10 +91,10 @@ key-ids-at-spec =
     enum-known-authority-serial
     option-at-requires-3
     enum-known-subject
-    enum-known-fault
-    enum-known-fault-2
-    enum-known-fault-3
     returns
+    enum-known-fault
     returns-2
+    enum-known-fault-2
     returns-3
+    enum-known-fault-3
     returns-4)

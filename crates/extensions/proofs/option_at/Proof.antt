@@ -12,14 +12,14 @@ string-at-requires c κs = search needs
 enum-known-span : tie.Need-enum-known-span
 enum-known-span c = search needs
 
-enum-known-fault : tie.Need-enum-known-fault
-enum-known-fault c = search needs
-
 returns : tie.Need-returns
 unfolding optionP
 returns c =
     let x = c .before .before .before in
     rw (x .before .if1 .taken, sym (x .string-at .ensures) ∙ ap spanned (c .before .span .given .1))
+
+enum-known-fault : tie.Need-enum-known-fault
+enum-known-fault c = search needs
 
 returns-2 : tie.Need-returns-2
 unfolding optionP
@@ -34,4 +34,4 @@ returns-3 c = rw (c .if1 .left)
 pub option-at-spec : {M : Type 1} → statement M
 option-at-spec =
     tie.close
-    (tie.spec string-at-requires enum-known-span enum-known-fault returns returns-2 returns-3)
+    (tie.spec string-at-requires enum-known-span returns enum-known-fault returns-2 returns-3)

@@ -32,18 +32,6 @@ extensions-at-requires c κs = search needs
 enum-known-extensions : tie.Need-enum-known-extensions
 enum-known-extensions c = search needs
 
-enum-known-fault : tie.Need-enum-known-fault
-enum-known-fault c = search needs
-
-enum-known-fault-2 : tie.Need-enum-known-fault-2
-enum-known-fault-2 c = search needs
-
-enum-known-fault-3 : tie.Need-enum-known-fault-3
-enum-known-fault-3 c = search needs
-
-enum-known-fault-4 : tie.Need-enum-known-fault-4
-enum-known-fault-4 c = search needs
-
 returns : tie.Need-returns
 unfolding recordP
 returns c =
@@ -60,6 +48,9 @@ returns c =
       sym (n .names-at .ensures) ∙ ap named (n' .names .given .1),
       sym (x .extensions-at .ensures) ∙ ap extended (c .before .extensions .given .1),
     )
+
+enum-known-fault : tie.Need-enum-known-fault
+enum-known-fault c = search needs
 
 returns-2 : tie.Need-returns-2
 unfolding recordP
@@ -78,6 +69,9 @@ returns-2 c =
       sym (x .extensions-at .ensures) ∙ ap extended (c .before .fault .given .1),
     )
 
+enum-known-fault-2 : tie.Need-enum-known-fault-2
+enum-known-fault-2 c = search needs
+
 returns-3 : tie.Need-returns-3
 unfolding recordP
 returns-3 c =
@@ -92,6 +86,9 @@ returns-3 c =
       sym (n .names-at .ensures) ∙ ap named (c .before .fault2 .given .1),
     )
 
+enum-known-fault-3 : tie.Need-enum-known-fault-3
+enum-known-fault-3 c = search needs
+
 returns-4 : tie.Need-returns-4
 unfolding recordP
 returns-4 c =
@@ -102,6 +99,9 @@ returns-4 c =
       sym (h .head-at .ensures) ∙ ap headed (h' .head .given .1),
       sym (s .strings-at .ensures) ∙ ap stringed (c .before .fault3 .given .1),
     )
+
+enum-known-fault-4 : tie.Need-enum-known-fault-4
+enum-known-fault-4 c = search needs
 
 returns-5 : tie.Need-returns-5
 unfolding recordP
@@ -119,12 +119,12 @@ record-at-spec =
     enum-known-names
     extensions-at-requires
     enum-known-extensions
-    enum-known-fault
-    enum-known-fault-2
-    enum-known-fault-3
-    enum-known-fault-4
     returns
+    enum-known-fault
     returns-2
+    enum-known-fault-2
     returns-3
+    enum-known-fault-3
     returns-4
+    enum-known-fault-4
     returns-5)

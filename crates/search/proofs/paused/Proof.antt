@@ -1,45 +1,33 @@
+-- `paused` hands the file's question and k to the paused run over rows, and tells why a file can't be read. Assumes nothing.
 use borrow.Author.Needs.{needs}
 use Rattle.search.proofs.paused.Statement.{statement}
 use Rattle.search.proofs.paused.Tie as tie
-use Rattle.search.proofs.paused.Reads as reads
-use Rattle.search.proofs.paused.Lts as lts
-use Rattle.search.proofs.question_in.Reads as question-in-reads
-use Rattle.steps.proofs.Answer.stopped.Reads as stopped-reads
-use Rattle.steps.proofs.paused.Reads as paused-reads
 use Rattle.search.proofs.Asked.{held-paused, pause-unread}
 
--- src/lib.rt:50:9
 question-in-requires : tie.Need-question-in-requires
 question-in-requires c κs = search needs
 
--- src/lib.rt:54:34
 enum-told : tie.Need-enum-told
 enum-told c = search needs
 
--- src/lib.rt:54:13
 paused-requires : tie.Need-paused-requires
 paused-requires c κs = search needs
 
--- src/lib.rt:54:13
 same-length : tie.Need-same-length
 same-length c = search needs
 
--- src/lib.rt:54:13
 returns : tie.Need-returns
 returns c =
     let u = c .before .before .before .before in
     let q = u .before .before .question-in in
     held-paused _ (q .result) (q .ensures) (u .enum-told .given .1) _ (c .before .before .paused .ensures)
 
--- src/lib.rt:56:23
 enum-known-outcome : tie.Need-enum-known-outcome
 enum-known-outcome c = search needs
 
--- src/lib.rt:57:13
 stopped-requires : tie.Need-stopped-requires
 stopped-requires c κs = search needs
 
--- src/lib.rt:57:13
 returns-2 : tie.Need-returns-2
 returns-2 c =
     let q = c .before .before .before .before .question-in in

@@ -1,45 +1,33 @@
+-- `search` hands the file's question to the search over rows, and tells why a file can't be read. Assumes nothing.
 use borrow.Author.Needs.{needs}
 use Rattle.search.proofs.search.Statement.{statement}
 use Rattle.search.proofs.search.Tie as tie
-use Rattle.search.proofs.search.Reads as reads
-use Rattle.search.proofs.search.Lts as lts
-use Rattle.search.proofs.question_in.Reads as question-in-reads
-use Rattle.steps.proofs.Answer.stopped.Reads as stopped-reads
-use Rattle.steps.proofs.search.Reads as search-reads
 use Rattle.search.proofs.Asked.{searched, search-unread}
 
--- src/lib.rt:28:9
 question-in-requires : tie.Need-question-in-requires
 question-in-requires c κs = search needs
 
--- src/lib.rt:33:17
 enum-told : tie.Need-enum-told
 enum-told c = search needs
 
--- src/lib.rt:32:13
 search-requires : tie.Need-search-requires
 search-requires c κs = search needs
 
--- src/lib.rt:32:13
 same-length : tie.Need-same-length
 same-length c = search needs
 
--- src/lib.rt:32:13
 returns : tie.Need-returns
 returns c =
     let u = c .before .before .before .before in
     let q = u .before .before .question-in in
     searched _ (q .result) (q .ensures) (u .enum-told .given .1) (c .before .before .search .ensures)
 
--- src/lib.rt:40:23
 enum-known-outcome : tie.Need-enum-known-outcome
 enum-known-outcome c = search needs
 
--- src/lib.rt:41:13
 stopped-requires : tie.Need-stopped-requires
 stopped-requires c κs = search needs
 
--- src/lib.rt:41:13
 returns-2 : tie.Need-returns-2
 returns-2 c =
     let q = c .before .before .before .before .question-in in

@@ -20,14 +20,14 @@ returns c =
     let p = c .before .before in
     rw (sym (p .before .before .count-at .ensures) ∙ ap counted (p .purpose .given .1), eq-eqb _ _ (c .if1 .taken))
 
-enum-known-fault : tie.Need-enum-known-fault
-enum-known-fault c = search needs
-
 returns-2 : tie.Need-returns-2
 unfolding purposeP byteP
 returns-2 c =
     let p = c .before .before in
     rw (sym (p .before .before .count-at .ensures) ∙ ap counted (p .purpose .given .1), ne-eqb _ _ (c .if1 .left))
+
+enum-known-fault : tie.Need-enum-known-fault
+enum-known-fault c = search needs
 
 returns-3 : tie.Need-returns-3
 unfolding purposeP byteP
@@ -36,4 +36,4 @@ returns-3 c = rw (sym (c .before .before .before .count-at .ensures) ∙ ap coun
 pub purpose-at-spec : {M : Type 1} → statement M
 purpose-at-spec =
     tie.close
-    (tie.spec count-at-requires enum-known-purpose returns enum-known-fault returns-2 returns-3)
+    (tie.spec count-at-requires enum-known-purpose returns returns-2 enum-known-fault returns-3)

@@ -26,24 +26,6 @@ string-at-requires c κs = search needs
 enum-known-name : tie.Need-enum-known-name
 enum-known-name c = search needs
 
-enum-known-fault : tie.Need-enum-known-fault
-enum-known-fault c = search needs
-
-no-task-requires : tie.Need-no-task-requires
-no-task-requires c κs = search needs
-
-enum-known-fault-2 : tie.Need-enum-known-fault-2
-enum-known-fault-2 c = search needs
-
-no-task-requires-2 : tie.Need-no-task-requires-2
-no-task-requires-2 c κs = search needs
-
-enum-known-fault-3 : tie.Need-enum-known-fault-3
-enum-known-fault-3 c = search needs
-
-no-task-requires-3 : tie.Need-no-task-requires-3
-no-task-requires-3 c κs = search needs
-
 returns : tie.Need-returns
 unfolding taskP held
 returns c =
@@ -55,6 +37,12 @@ returns c =
     let purpose = sym (p .purpose-at .ensures) ∙ ap passed (b .b .given .1) in
     let host = sym (s .string-at .ensures) ∙ ap spanned (c .before .name .given .1) in
     rw times (sym (after-end (purposeP _ _) _ ∙ rw (purpose, host)))
+
+enum-known-fault : tie.Need-enum-known-fault
+enum-known-fault c = search needs
+
+no-task-requires : tie.Need-no-task-requires
+no-task-requires c κs = search needs
 
 returns-2 : tie.Need-returns-2
 unfolding taskP
@@ -69,6 +57,12 @@ returns-2 c =
     let host = sym (s .string-at .ensures) ∙ ap spanned (f .fault .given .1) in
     rw times (c .no-task .ensures ∙ sym (after-end (purposeP _ _) _ ∙ rw (purpose, host)))
 
+enum-known-fault-2 : tie.Need-enum-known-fault-2
+enum-known-fault-2 c = search needs
+
+no-task-requires-2 : tie.Need-no-task-requires-2
+no-task-requires-2 c κs = search needs
+
 returns-3 : tie.Need-returns-3
 unfolding taskP
 returns-3 c =
@@ -78,6 +72,12 @@ returns-3 c =
     let times = sym (t .before .before .times-at .ensures) ∙ ap timed (t .now .given .1) in
     let purpose = sym (p .purpose-at .ensures) ∙ ap passed (f .fault2 .given .1) in
     rw times (c .no-task2 .ensures ∙ sym (after-end (purposeP _ _) _ ∙ rw purpose))
+
+enum-known-fault-3 : tie.Need-enum-known-fault-3
+enum-known-fault-3 c = search needs
+
+no-task-requires-3 : tie.Need-no-task-requires-3
+no-task-requires-3 c κs = search needs
 
 returns-4 : tie.Need-returns-4
 unfolding taskP
@@ -95,13 +95,13 @@ task-at-spec =
     enum-known-b
     string-at-requires
     enum-known-name
+    returns
     enum-known-fault
     no-task-requires
+    returns-2
     enum-known-fault-2
     no-task-requires-2
+    returns-3
     enum-known-fault-3
     no-task-requires-3
-    returns
-    returns-2
-    returns-3
     returns-4)

@@ -24,15 +24,6 @@ u64-at-requires-2 c κs = search needs
 enum-known-budget : tie.Need-enum-known-budget
 enum-known-budget c = search needs
 
-enum-known-fault : tie.Need-enum-known-fault
-enum-known-fault c = search needs
-
-enum-known-fault-2 : tie.Need-enum-known-fault-2
-enum-known-fault-2 c = search needs
-
-enum-known-fault-3 : tie.Need-enum-known-fault-3
-enum-known-fault-3 c = search needs
-
 returns : tie.Need-returns
 unfolding timesP
 returns c =
@@ -45,6 +36,9 @@ returns c =
       sym (u .u64-at .ensures) ∙ ap numbered (n .now .given .1),
       sym (b .u64-at2 .ensures) ∙ ap numbered (c .before .budget .given .1),
     )
+
+enum-known-fault : tie.Need-enum-known-fault
+enum-known-fault c = search needs
 
 returns-2 : tie.Need-returns-2
 unfolding timesP
@@ -59,6 +53,9 @@ returns-2 c =
       sym (b .u64-at2 .ensures) ∙ ap numbered (c .before .fault .given .1),
     )
 
+enum-known-fault-2 : tie.Need-enum-known-fault-2
+enum-known-fault-2 c = search needs
+
 returns-3 : tie.Need-returns-3
 unfolding timesP
 returns-3 c =
@@ -68,6 +65,9 @@ returns-3 c =
       sym (a .before .before .count-at .ensures) ∙ ap counted (a .a .given .1),
       sym (u .u64-at .ensures) ∙ ap numbered (c .before .fault2 .given .1),
     )
+
+enum-known-fault-3 : tie.Need-enum-known-fault-3
+enum-known-fault-3 c = search needs
 
 returns-4 : tie.Need-returns-4
 unfolding timesP
@@ -83,10 +83,10 @@ times-at-spec =
     enum-known-now
     u64-at-requires-2
     enum-known-budget
-    enum-known-fault
-    enum-known-fault-2
-    enum-known-fault-3
     returns
+    enum-known-fault
     returns-2
+    enum-known-fault-2
     returns-3
+    enum-known-fault-3
     returns-4)

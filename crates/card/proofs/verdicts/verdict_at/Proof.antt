@@ -20,14 +20,14 @@ returns c =
     let v = c .before .before in
     rw (sym (v .before .before .count-at .ensures) ∙ ap counted (v .verdict .given .1), lt-leb _ _ (c .if1 .taken))
 
-enum-known-fault : tie.Need-enum-known-fault
-enum-known-fault c = search needs
-
 returns-2 : tie.Need-returns-2
 unfolding verdictP byteP
 returns-2 c =
     let v = c .before .before in
     rw (sym (v .before .before .count-at .ensures) ∙ ap counted (v .verdict .given .1), le-leb _ _ (c .if1 .left))
+
+enum-known-fault : tie.Need-enum-known-fault
+enum-known-fault c = search needs
 
 returns-3 : tie.Need-returns-3
 unfolding verdictP byteP
@@ -36,4 +36,4 @@ returns-3 c = rw (sym (c .before .before .before .count-at .ensures) ∙ ap coun
 pub verdict-at-spec : {M : Type 1} → statement M
 verdict-at-spec =
     tie.close
-    (tie.spec count-at-requires enum-known-verdict returns enum-known-fault returns-2 returns-3)
+    (tie.spec count-at-requires enum-known-verdict returns returns-2 enum-known-fault returns-3)

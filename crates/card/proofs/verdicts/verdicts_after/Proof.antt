@@ -33,18 +33,6 @@ returns c =
 no-verdicts-requires : tie.Need-no-verdicts-requires
 no-verdicts-requires c κs = search needs
 
-enum-known-fault : tie.Need-enum-known-fault
-enum-known-fault c = search needs
-
-no-verdicts-requires-2 : tie.Need-no-verdicts-requires-2
-no-verdicts-requires-2 c κs = search needs
-
-enum-known-past-2 : tie.Need-enum-known-past-2
-enum-known-past-2 c = search needs
-
-no-verdicts-requires-3 : tie.Need-no-verdicts-requires-3
-no-verdicts-requires-3 c κs = search needs
-
 returns-2 : tie.Need-returns-2
 returns-2 c =
     let n = c .before .before in
@@ -54,12 +42,24 @@ returns-2 c =
     rw (ap passed (u .before .before .past .given .1))
     (c .no-verdicts .ensures ∙ sym (miscounted _ _ _ _ _ _ _ b (n .asked .ensures) (c .before .if1 .left)))
 
+enum-known-fault : tie.Need-enum-known-fault
+enum-known-fault c = search needs
+
+no-verdicts-requires-2 : tie.Need-no-verdicts-requires-2
+no-verdicts-requires-2 c κs = search needs
+
 returns-3 : tie.Need-returns-3
 returns-3 c =
     let f = c .before .before in
     let u = f .before .before in
     rw (ap passed (u .before .before .past .given .1))
     (c .no-verdicts2 .ensures ∙ sym (uncounted _ _ _ _ _ (sym (u .u16-at .ensures) ∙ ap numbered (f .fault .given .1))))
+
+enum-known-past-2 : tie.Need-enum-known-past-2
+enum-known-past-2 c = search needs
+
+no-verdicts-requires-3 : tie.Need-no-verdicts-requires-3
+no-verdicts-requires-3 c κs = search needs
 
 returns-4 : tie.Need-returns-4
 returns-4 c = rw (ap passed (c .before .before .past2 .given .1)) (c .no-verdicts3 .ensures)
@@ -75,10 +75,10 @@ verdicts-after-spec =
     verdicts-past-requires
     returns
     no-verdicts-requires
+    returns-2
     enum-known-fault
     no-verdicts-requires-2
+    returns-3
     enum-known-past-2
     no-verdicts-requires-3
-    returns-2
-    returns-3
     returns-4)

@@ -20,14 +20,14 @@ returns c =
     let u = c .before .before in
     rw (sym (u .before .before .count-at .ensures) ∙ ap counted (u .usage .given .1), lt-leb _ _ (c .if1 .taken))
 
-enum-known-fault : tie.Need-enum-known-fault
-enum-known-fault c = search needs
-
 returns-2 : tie.Need-returns-2
 unfolding usageP byteP
 returns-2 c =
     let u = c .before .before in
     rw (sym (u .before .before .count-at .ensures) ∙ ap counted (u .usage .given .1), le-leb _ _ (c .if1 .left))
+
+enum-known-fault : tie.Need-enum-known-fault
+enum-known-fault c = search needs
 
 returns-3 : tie.Need-returns-3
 unfolding usageP byteP
@@ -36,4 +36,4 @@ returns-3 c = rw (sym (c .before .before .before .count-at .ensures) ∙ ap coun
 pub usage-at-spec : {M : Type 1} → statement M
 usage-at-spec =
     tie.close
-    (tie.spec count-at-requires enum-known-usage returns enum-known-fault returns-2 returns-3)
+    (tie.spec count-at-requires enum-known-usage returns returns-2 enum-known-fault returns-3)

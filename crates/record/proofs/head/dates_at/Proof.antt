@@ -18,12 +18,6 @@ u64-at-requires-2 c κs = search needs
 enum-known-not-after : tie.Need-enum-known-not-after
 enum-known-not-after c = search needs
 
-enum-known-fault : tie.Need-enum-known-fault
-enum-known-fault c = search needs
-
-enum-known-fault-2 : tie.Need-enum-known-fault-2
-enum-known-fault-2 c = search needs
-
 returns : tie.Need-returns
 unfolding datesP
 returns c =
@@ -31,12 +25,18 @@ returns c =
     let b = t .before .before in
     rw (sym (b .before .before .u64-at .ensures) ∙ ap numbered (b .not-before .given .1), sym (t .u64-at2 .ensures) ∙ ap numbered (c .before .not-after .given .1))
 
+enum-known-fault : tie.Need-enum-known-fault
+enum-known-fault c = search needs
+
 returns-2 : tie.Need-returns-2
 unfolding datesP
 returns-2 c =
     let t = c .before .before .before in
     let b = t .before .before in
     rw (sym (b .before .before .u64-at .ensures) ∙ ap numbered (b .not-before .given .1), sym (t .u64-at2 .ensures) ∙ ap numbered (c .before .fault .given .1))
+
+enum-known-fault-2 : tie.Need-enum-known-fault-2
+enum-known-fault-2 c = search needs
 
 returns-3 : tie.Need-returns-3
 unfolding datesP
@@ -50,8 +50,8 @@ dates-at-spec =
     enum-known-not-before
     u64-at-requires-2
     enum-known-not-after
-    enum-known-fault
-    enum-known-fault-2
     returns
+    enum-known-fault
     returns-2
+    enum-known-fault-2
     returns-3)

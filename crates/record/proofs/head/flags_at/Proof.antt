@@ -47,12 +47,6 @@ returns-2 c =
       lt-ltb _ _ (c .if2 .taken),
     )
 
-enum-known-fault : tie.Need-enum-known-fault
-enum-known-fault c = search needs
-
-enum-known-fault-2 : tie.Need-enum-known-fault-2
-enum-known-fault-2 c = search needs
-
 returns-3 : tie.Need-returns-3
 unfolding flagsP byteP
 returns-3 c =
@@ -66,6 +60,9 @@ returns-3 c =
       le-ltb _ _ (c .if2 .left),
     )
 
+enum-known-fault : tie.Need-enum-known-fault
+enum-known-fault c = search needs
+
 returns-4 : tie.Need-returns-4
 unfolding flagsP byteP
 returns-4 c =
@@ -75,6 +72,9 @@ returns-4 c =
       sym (v .before .before .count-at .ensures) ∙ ap counted (v .version .given .1),
       sym (t .count-at2 .ensures) ∙ ap counted (c .before .fault .given .1),
     )
+
+enum-known-fault-2 : tie.Need-enum-known-fault-2
+enum-known-fault-2 c = search needs
 
 returns-5 : tie.Need-returns-5
 unfolding flagsP byteP
@@ -90,8 +90,8 @@ flags-at-spec =
     enum-known-flags
     returns
     returns-2
-    enum-known-fault
-    enum-known-fault-2
     returns-3
+    enum-known-fault
     returns-4
+    enum-known-fault-2
     returns-5)

@@ -18,12 +18,6 @@ dates-at-requires c κs = search needs
 enum-known-not-before : tie.Need-enum-known-not-before
 enum-known-not-before c = search needs
 
-enum-known-fault : tie.Need-enum-known-fault
-enum-known-fault c = search needs
-
-enum-known-fault-2 : tie.Need-enum-known-fault-2
-enum-known-fault-2 c = search needs
-
 returns : tie.Need-returns
 unfolding headP
 returns c =
@@ -31,12 +25,18 @@ returns c =
     let v = t .before .before in
     rw (sym (v .before .before .flags-at .ensures) ∙ ap flagged (v .version .given .1), sym (t .dates-at .ensures) ∙ ap dated (c .before .not-before .given .1))
 
+enum-known-fault : tie.Need-enum-known-fault
+enum-known-fault c = search needs
+
 returns-2 : tie.Need-returns-2
 unfolding headP
 returns-2 c =
     let t = c .before .before .before in
     let v = t .before .before in
     rw (sym (v .before .before .flags-at .ensures) ∙ ap flagged (v .version .given .1), sym (t .dates-at .ensures) ∙ ap dated (c .before .fault .given .1))
+
+enum-known-fault-2 : tie.Need-enum-known-fault-2
+enum-known-fault-2 c = search needs
 
 returns-3 : tie.Need-returns-3
 unfolding headP
@@ -50,8 +50,8 @@ head-at-spec =
     enum-known-version
     dates-at-requires
     enum-known-not-before
-    enum-known-fault
-    enum-known-fault-2
     returns
+    enum-known-fault
     returns-2
+    enum-known-fault-2
     returns-3)

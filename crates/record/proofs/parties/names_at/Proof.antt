@@ -20,12 +20,6 @@ name-at-requires-2 c κs = search needs
 enum-known-next : tie.Need-enum-known-next
 enum-known-next c = search needs
 
-enum-known-fault : tie.Need-enum-known-fault
-enum-known-fault c = search needs
-
-enum-known-fault-2 : tie.Need-enum-known-fault-2
-enum-known-fault-2 c = search needs
-
 returns : tie.Need-returns
 unfolding namesP
 returns c =
@@ -36,6 +30,9 @@ returns c =
       passing-got (nameP _ _) _ (sym (t .name-at2 .ensures) ∙ ap passed (c .before .next .given .1)) .is,
     )
 
+enum-known-fault : tie.Need-enum-known-fault
+enum-known-fault c = search needs
+
 returns-2 : tie.Need-returns-2
 unfolding namesP
 returns-2 c =
@@ -45,6 +42,9 @@ returns-2 c =
       passing-got (nameP _ _) _ (sym (i .before .before .name-at .ensures) ∙ ap passed (i .subject .given .1)) .is,
       passing-stops (nameP _ _) _ (sym (t .name-at2 .ensures) ∙ ap passed (c .before .fault .given .1)),
     )
+
+enum-known-fault-2 : tie.Need-enum-known-fault-2
+enum-known-fault-2 c = search needs
 
 returns-3 : tie.Need-returns-3
 unfolding namesP
@@ -58,8 +58,8 @@ names-at-spec =
     enum-known-subject
     name-at-requires-2
     enum-known-next
-    enum-known-fault
-    enum-known-fault-2
     returns
+    enum-known-fault
     returns-2
+    enum-known-fault-2
     returns-3)

@@ -24,15 +24,6 @@ string-at-requires-3 c κs = search needs
 enum-known-inner : tie.Need-enum-known-inner
 enum-known-inner c = search needs
 
-enum-known-fault : tie.Need-enum-known-fault
-enum-known-fault c = search needs
-
-enum-known-fault-2 : tie.Need-enum-known-fault-2
-enum-known-fault-2 c = search needs
-
-enum-known-fault-3 : tie.Need-enum-known-fault-3
-enum-known-fault-3 c = search needs
-
 returns : tie.Need-returns
 unfolding stringsP
 returns c =
@@ -45,6 +36,9 @@ returns c =
       sym (u .string-at2 .ensures) ∙ ap spanned (o .outer .given .1),
       sym (t .string-at3 .ensures) ∙ ap spanned (c .before .inner .given .1),
     )
+
+enum-known-fault : tie.Need-enum-known-fault
+enum-known-fault c = search needs
 
 returns-2 : tie.Need-returns-2
 unfolding stringsP
@@ -59,6 +53,9 @@ returns-2 c =
       sym (t .string-at3 .ensures) ∙ ap spanned (c .before .fault .given .1),
     )
 
+enum-known-fault-2 : tie.Need-enum-known-fault-2
+enum-known-fault-2 c = search needs
+
 returns-3 : tie.Need-returns-3
 unfolding stringsP
 returns-3 c =
@@ -68,6 +65,9 @@ returns-3 c =
       sym (s .before .before .string-at .ensures) ∙ ap spanned (s .serial .given .1),
       sym (u .string-at2 .ensures) ∙ ap spanned (c .before .fault2 .given .1),
     )
+
+enum-known-fault-3 : tie.Need-enum-known-fault-3
+enum-known-fault-3 c = search needs
 
 returns-4 : tie.Need-returns-4
 unfolding stringsP
@@ -83,10 +83,10 @@ strings-at-spec =
     enum-known-outer
     string-at-requires-3
     enum-known-inner
-    enum-known-fault
-    enum-known-fault-2
-    enum-known-fault-3
     returns
+    enum-known-fault
     returns-2
+    enum-known-fault-2
     returns-3
+    enum-known-fault-3
     returns-4)

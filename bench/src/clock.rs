@@ -1,0 +1,105 @@
+//! Times versions of the search side by side: turn about in one process, over and over, by the time that the thread was given.
+
+use crate::answer::Answer;
+use crate::versions::Version;
+use std::hint::black_box;
+use std::time::{Duration, Instant};
+
+/// A turn calls a version so often that it takes about this long, in nanoseconds.
+const TURN: u64 = 40_000;
+
+/// Of many turns one in so many is passed over as too fast to be true, since the clock slips at times; the next is the best.
+const PASSED_OVER: usize = 100;
+
+/// The fewest turns that are tried.
+const LEAST_TURNS: usize = 20;
+
+/// Room for the largest bundle.
+const ROOM: usize = 106 * 17;
+
+/// A file that a version is to answer.
+#[derive(Clone, Copy)]
+pub struct Job<'a> {
+    pub file: &'a [u8],
+    pub version: &'a Version,
+}
+
+/// The time of a call of each job, in nanoseconds. Each call is lent cleared room.
+pub fn times<const N: usize>(jobs: [Job; N], lasting: Duration) -> [f64; N] {
+    let calls = jobs.map(calls);
+    let mut turns = jobs.map(|_| vec![]);
+    let start = Instant::now();
+    while start.elapsed() < lasting || turns[0].len() < LEAST_TURNS {
+        for at in 0..N {
+            turns[at].push(turn(jobs[at], calls[at]));
+        }
+    }
+    let mut times = [0.0; N];
+    for at in 0..N {
+        turns[at].sort();
+        times[at] = turns[at][turns[at].len() / PASSED_OVER] as f64 / calls[at] as f64;
+    }
+    times
+}
+
+/// How often a job is called in a turn.
+fn calls(job: Job) -> u64 {
+    let once = (0..5).map(|_| turn(job, 1)).max();
+    (TURN / once.unwrap_or(TURN).max(1)).clamp(1, 1000)
+}
+
+fn turn(job: Job, calls: u64) -> u64 {
+    let mut room = [0; ROOM];
+    let start = now();
+    for _ in 0..calls {
+        black_box((job.version.search)(
+            black_box(job.file),
+            black_box(&mut room),
+        ));
+    }
+    now() - start
+}
+
+#[repr(C)]
+struct Timespec {
+    seconds: i64,
+    nanoseconds: i64,
+}
+
+extern "C" {
+    fn clock_gettime(clock: i32, time: *mut Timespec) -> i32;
+}
+
+/// Linux's clock of the time that a thread was given: what other programs take of the machine is not in it.
+const THREAD_TIME: i32 = 3;
+
+fn now() -> u64 {
+    let mut time = Timespec {
+        seconds: 0,
+        nanoseconds: 0,
+    };
+    // SAFETY: the clock writes one time, to a place that holds one.
+    let failed = unsafe { clock_gettime(THREAD_TIME, &mut time) };
+    assert_eq!(failed, 0, "there is no clock of the thread's time");
+    time.seconds as u64 * 1_000_000_000 + time.nanoseconds as u64
+}
+
+/// What all of these versions answer. They must answer alike, and leave the lent room alike.
+pub fn agreed<const N: usize>(file: &[u8], versions: [&Version; N]) -> Answer {
+    let told = versions.map(|version| {
+        // lent full of sevens, with a part slot at the end
+        let mut room = [7; ROOM + 5];
+        ((version.search)(file, &mut room), room)
+    });
+    for (version, this) in versions.iter().zip(&told) {
+        assert!(
+            *this == told[0],
+            "{} answers {:?} and {} {:?}, or they leave other rooms",
+            versions[0].name,
+            told[0].0,
+            version.name,
+            this.0
+        );
+    }
+    told[0].0
+}

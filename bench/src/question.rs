@@ -1,0 +1,210 @@
+//! What a card asks of the search, worked out once: who issued whom as rows of bits, and what each certificate may stand for.
+
+use crate::reader::{Card, Record};
+
+pub struct Question {
+    pub size: usize,
+    pub budget: u64,
+    /// For each place the places of the bundle that issued it.
+    pub issuers: [u16; 16],
+    /// For each place the roots that issued it and may stand above some path.
+    pub roots: [u32; 16],
+    /// The places that may stand between leaf and root, where their path length allows.
+    pub between: u16,
+    /// How many certificates each place, and each root, lets stand between it and the leaf.
+    pub place_limits: [u8; 16],
+    pub root_limits: [u8; 32],
+}
+
+impl Question {
+    pub fn of(card: &Card) -> Question {
+        let (roots, bundle) = (card.roots.all(), card.bundle.all());
+        let mut question = Question {
+            size: bundle.len(),
+            budget: card.budget,
+            issuers: [0; 16],
+            roots: [0; 16],
+            between: 0,
+            place_limits: [0; 16],
+            root_limits: [0; 32],
+        };
+        question.judge(card);
+        let mut rows = card.verdicts.chunks_exact(bundle.len());
+        for (place, root) in roots.iter().enumerate() {
+            let row = rows.next().unwrap_or(&[]);
+            fill(&mut question.roots, row, root, place, bundle);
+        }
+        for (place, issuer) in bundle.iter().enumerate() {
+            let row = rows.next().unwrap_or(&[]);
+            fill(&mut question.issuers, row, issuer, place, bundle);
+        }
+        let above = above(card);
+        question.roots.iter_mut().for_each(|row| *row &= above);
+        question
+    }
+
+    fn judge(&mut self, card: &Card) {
+        for (place, cert) in card.bundle.all().iter().enumerate() {
+            self.place_limits[place] = cert.path_length;
+            let sound = in_date(cert, card.now) && well_formed(cert) && authority(cert);
+            self.between |= u16::from(sound) << place;
+        }
+        for (place, root) in card.roots.all().iter().enumerate() {
+            self.root_limits[place] = root.path_length;
+        }
+    }
+
+    /// The lowest root by which a path qualifies.
+    #[inline]
+    pub fn root_above(&self, path: &[u8]) -> Option<u8> {
+        let between = path.len() - 1;
+        let mut roots = self.roots[usize::from(path[between])];
+        if roots == 0 || !self.all_stand(path) {
+            return None;
+        }
+        while roots != 0 {
+            let root = roots.trailing_zeros() as u8;
+            if between <= usize::from(self.root_limits[usize::from(root)]) {
+                return Some(root);
+            }
+            roots &= roots - 1;
+        }
+        None
+    }
+
+    fn all_stand(&self, path: &[u8]) -> bool {
+        let mut above_leaf = path[1..].iter().enumerate();
+        above_leaf.all(|(between, place)| self.stands(*place, between))
+    }
+
+    /// Whether a place may stand in a chain with so many certificates between it and the leaf.
+    #[inline]
+    pub fn stands(&self, place: u8, between: usize) -> bool {
+        self.between >> place & 1 != 0
+            && between <= usize::from(self.place_limits[usize::from(place)])
+    }
+}
+
+/// Sets the bit of an issuer's place in the row of each certificate that it issued.
+fn fill<Row>(rows: &mut [Row; 16], signed: &[u8], issuer: &Record, place: usize, of: &[Record])
+where
+    Row: Copy + From<bool> + std::ops::BitOrAssign + std::ops::Shl<usize, Output = Row>,
+{
+    for ((row, signed), subject) in rows.iter_mut().zip(signed).zip(of) {
+        if *signed == 1 && likely_issued(issuer, subject) {
+            *row |= Row::from(true) << place;
+        }
+    }
+}
+
+fn likely_issued(issuer: &Record, subject: &Record) -> bool {
+    let key_ids_differ =
+        subject.has(1) && issuer.has(4) && subject.authority_key_id != issuer.subject_key_id;
+    let serials_differ = subject.has(2) && subject.authority_serial != issuer.serial;
+    !key_ids_differ && !serials_differ && same_name(subject.issuer, issuer.subject)
+}
+
+/// Whether two encoded names are the same. Equal bytes are, and are looked at first.
+fn same_name(a: &[u8], b: &[u8]) -> bool {
+    a == b || (a[0] == b[0] && same_rdns(&a[1..], &b[1..]))
+}
+
+fn same_rdns(mut a: &[u8], mut b: &[u8]) -> bool {
+    while !a.is_empty() && !b.is_empty() {
+        if a[0] != b[0] {
+            return false;
+        }
+        let attributes = a[0];
+        (a, b) = (&a[1..], &b[1..]);
+        for _ in 0..attributes {
+            let same_oid = next_string(&mut a) == next_string(&mut b);
+            if !same_oid || !normal(next_string(&mut a)).eq(normal(next_string(&mut b))) {
+                return false;
+            }
+        }
+    }
+    true
+}
+
+fn next_string<'a>(rest: &mut &'a [u8]) -> &'a [u8] {
+    let (string, after) = rest[1..].split_at(usize::from(rest[0]));
+    *rest = after;
+    string
+}
+
+/// The bytes of a string's normal form.
+fn normal(s: &[u8]) -> impl Iterator<Item = u8> + '_ {
+    let s = s.trim_ascii_end_spaces();
+    let mut before = b' ';
+    s.iter().filter_map(move |byte| {
+        let kept = *byte != b' ' || before != b' ';
+        before = *byte;
+        kept.then(|| byte.to_ascii_lowercase())
+    })
+}
+
+trait Spaces {
+    fn trim_ascii_end_spaces(&self) -> &[u8];
+}
+
+impl Spaces for [u8] {
+    fn trim_ascii_end_spaces(&self) -> &[u8] {
+        let end = self.iter().rposition(|byte| *byte != b' ');
+        &self[..end.map_or(0, |last| last + 1)]
+    }
+}
+
+fn in_date(cert: &Record, now: u64) -> bool {
+    cert.not_before <= now && now <= cert.not_after
+}
+
+fn well_formed(cert: &Record) -> bool {
+    cert.version == 2 && cert.outer == cert.inner && !cert.has(128)
+}
+
+fn authority(cert: &Record) -> bool {
+    cert.has(8) && cert.flags & 96 != 32
+}
+
+/// The roots that may stand above: none where the leaf is not sound.
+fn above(card: &Card) -> u32 {
+    let leaf = &card.bundle.all()[0];
+    if !(in_date(leaf, card.now) && well_formed(leaf) && serves(leaf) && named(leaf, card.host)) {
+        return 0;
+    }
+    let sound = |root: &Record| in_date(root, card.now) && !root.has(128) && authority(root);
+    let roots = card.roots.all().iter().enumerate();
+    roots.fold(0, |row, (place, root)| {
+        row | u32::from(sound(root)) << place
+    })
+}
+
+fn serves(leaf: &Record) -> bool {
+    leaf.usages.is_empty() || leaf.usages.iter().any(|usage| matches!(usage, 0 | 6))
+}
+
+fn named(leaf: &Record, host: &[u8]) -> bool {
+    if host.is_empty() {
+        return true;
+    }
+    let mut names = leaf.dns_names;
+    while !names.is_empty() {
+        if matches_host(next_string(&mut names), host) {
+            return true;
+        }
+    }
+    false
+}
+
+/// A DNS name as a pattern, no case told apart.
+fn matches_host(pattern: &[u8], host: &[u8]) -> bool {
+    match pattern.strip_prefix(b"*.") {
+        None => pattern.eq_ignore_ascii_case(host),
+        Some(b"") => false,
+        Some(domain) if domain.eq_ignore_ascii_case(host) => true,
+        Some(domain) => match host.iter().position(|byte| *byte == b'.') {
+            Some(dot) => dot > 0 && domain.eq_ignore_ascii_case(&host[dot + 1..]),
+            None => false,
+        },
+    }
+}

@@ -1,0 +1,73 @@
+//! The versions that are timed, each from the bytes of a card file to the answer and the room as it leaves it.
+
+use crate::answer::Answer;
+use crate::question::Question;
+use crate::reader::Card;
+use crate::{library, ordinary, packed, tuned};
+
+/// The slots needed for a bundle of so many certificates.
+pub const SLOTS: [usize; 17] = [
+    0, 1, 1, 2, 4, 7, 11, 16, 22, 29, 37, 46, 56, 67, 79, 92, 106,
+];
+
+pub struct Version {
+    pub name: &'static str,
+    pub search: fn(&[u8], &mut [u8]) -> Answer,
+}
+
+pub const LIBRARY: Version = Version {
+    name: "Savuneco",
+    search: library::search,
+};
+
+pub const ORDINARY: Version = Version {
+    name: "ordinary",
+    search: |file, room| search(file, room, |question, _| ordinary::walk(question)),
+};
+
+pub const UPSTREAM: Version = Version {
+    name: "upstream",
+    search: upstream,
+};
+
+pub const TUNED: Version = Version {
+    name: "tuned",
+    search: |file, room| search(file, room, tuned::walk),
+};
+
+pub const PACKED: Version = Version {
+    name: "packed",
+    search: |file, room| search(file, room, |question, _| packed::walk(question)),
+};
+
+/// A search that walks over what the reader without allocation has read.
+fn search(file: &[u8], room: &mut [u8], walk: fn(&Question, &mut [u8]) -> Answer) -> Answer {
+    let mut card = Card::NONE;
+    if let Err(fault) = card.read(file) {
+        return Answer::without_path(fault, 0);
+    }
+    let size = card.bundle.all().len();
+    if size == 0 {
+        return Answer::without_path(3, 0);
+    }
+    if room.len() / tuned::SLOT < SLOTS[size] {
+        return Answer::without_path(10, 0);
+    }
+    let slots = &mut room[..SLOTS[size] * tuned::SLOT];
+    let answer = walk(&Question::of(&card), slots);
+    slots.fill(0);
+    answer
+}
+
+/// The reference as it stands, reader included; its room is a copy of the lent one.
+fn upstream(file: &[u8], room: &mut [u8]) -> Answer {
+    let answer = reference::search(file, room);
+    room.copy_from_slice(&answer.room);
+    match answer.reply {
+        reference::Reply::Accepted { steps, root, path } => {
+            let places: Vec<u8> = path.iter().map(|place| *place as u8).collect();
+            Answer::accepted(steps, root as u8, &places)
+        }
+        reply => Answer::without_path(reply.number(), reply.steps()),
+    }
+}

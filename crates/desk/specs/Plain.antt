@@ -1,0 +1,29 @@
+-- An answer in plain numbers. Assumes nothing.
+use mathlib.Core.List.{List, map}
+use mathlib.Core.Path.{_≡_}
+use Prim.Native.Nat.{ℕ}
+use Rattle.card.specs.declared.places.BundlePlace.{BundlePlace}
+use Rattle.steps.specs.Answer.{told}
+use Rattle.steps.specs.declared.Answer.{Answer}
+use Rattle.desk.specs.declared.plain.Plain.{Plain}
+
+-- the places' numbers
+abbrev pub numbers : List BundlePlace → List ℕ
+numbers ps = map (λ (p : BundlePlace). p .0) ps
+
+-- what the reply tells, and the path beside it
+unfoldable pub plain : Answer → Plain
+plain a =
+    record {
+      steps = told (a .reply) .steps;
+      number = told (a .reply) .number;
+      root = told (a .reply) .root;
+      length = a .path .length;
+      path = numbers (a .path .places);
+    }
+
+-- r says in plain numbers an answer for which P holds
+pub record Says (P : Answer → Type 0) (r : Plain) : Type 0 where
+  pub answer : Answer
+  pub holds : P answer
+  pub plainly : r ≡ plain answer

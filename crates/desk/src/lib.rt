@@ -1,0 +1,45 @@
+// The published face: the questions that a terminal asks, each as a Rattle function under its own name and as `savuneco_..` for C.
+// The crates below answer them; here their answers become plain numbers, and C's flags yes or no.
+mod addresses;
+mod identity;
+mod plain;
+mod relations;
+mod searching;
+mod texts;
+
+pub use addresses::savuneco_ip_addr_in_range;
+pub use card::BundlePlace;
+pub use card::RootPlace;
+pub use fields::Fault;
+pub use identity::savuneco_check_auth_key_id;
+pub use keys::check_auth_key_id;
+pub use keys::ip_addr_in_range;
+pub use names::Related;
+pub use names::same_attr;
+pub use names::same_dn;
+pub use names::same_rdn;
+pub use order::slots;
+pub use plain::Plain;
+pub use relations::savuneco_is_subtree_of;
+pub use relations::savuneco_is_subtree_rdn;
+pub use relations::savuneco_rdn_has_name;
+pub use relations::savuneco_same_attr;
+pub use relations::savuneco_same_dn;
+pub use relations::savuneco_same_rdn;
+pub use search::paused;
+pub use search::search;
+pub use searching::savuneco_paused;
+pub use searching::savuneco_search;
+pub use searching::savuneco_slots;
+pub use steps::Answer;
+pub use steps::Path;
+pub use steps::Reply;
+pub use subtree::is_subtree_of;
+pub use subtree::is_subtree_rdn;
+pub use subtree::rdn_has_name;
+pub use text::Normalized;
+pub use text::match_name;
+pub use text::normalize_string;
+pub use texts::Form;
+pub use texts::savuneco_match_name;
+pub use texts::savuneco_normalize;

@@ -1,0 +1,67 @@
+// The relations of two encoded attributes, RDNs or names for C: 0 is no, 1 is yes, else the number of the first bad argument's fault.
+use names::Related;
+ghost use mathlib.Core.Path.{_≡_};
+ghost use Rattle.fields.specs.Fields.{whole};
+ghost use Rattle.names.specs.Names.{attrP, rdnP, nameP, sameAttr, sameRdn, sameDn};
+ghost use Rattle.names.specs.Answers.{said, asked};
+ghost use Rattle.subtree.specs.Subtree.{rdnHasName, isSubtreeRdn, isSubtreeOf};
+ghost use Rattle.desk.specs.Leaves.{flagged};
+
+// Equal OID, and equal value, normalised when the flag says so.
+#[no_mangle]
+pub extern "C" fn savuneco_same_attr(a: &[u8], b: &[u8], normalise: u8) -> u8
+    ensures { λ r. ⌜ r ≡ asked (sameAttr (flagged normalise)) (whole attrP (now (a .entry))) (whole attrP (now (b .entry))) ⌝ }
+{
+    number_of(names::same_attr(a, b, normalise != 0))
+}
+
+// As many attributes, the same place by place.
+#[no_mangle]
+pub extern "C" fn savuneco_same_rdn(a: &[u8], b: &[u8], normalise: u8) -> u8
+    ensures { λ r. ⌜ r ≡ asked (sameRdn (flagged normalise)) (whole rdnP (now (a .entry))) (whole rdnP (now (b .entry))) ⌝ }
+{
+    number_of(names::same_rdn(a, b, normalise != 0))
+}
+
+// As many RDNs, the same place by place.
+#[no_mangle]
+pub extern "C" fn savuneco_same_dn(a: &[u8], b: &[u8], normalise: u8) -> u8
+    ensures { λ r. ⌜ r ≡ asked (sameDn (flagged normalise)) (whole nameP (now (a .entry))) (whole nameP (now (b .entry))) ⌝ }
+{
+    number_of(names::same_dn(a, b, normalise != 0))
+}
+
+// Whether some attribute of an RDN, the first argument, is the same as the second.
+#[no_mangle]
+pub extern "C" fn savuneco_rdn_has_name(a: &[u8], b: &[u8], normalise: u8) -> u8
+    ensures { λ r. ⌜ r ≡ asked (rdnHasName (flagged normalise)) (whole rdnP (now (a .entry))) (whole attrP (now (b .entry))) ⌝ }
+{
+    number_of(subtree::rdn_has_name(a, b, normalise != 0))
+}
+
+// No more attributes, and the second RDN has each of the first's.
+#[no_mangle]
+pub extern "C" fn savuneco_is_subtree_rdn(a: &[u8], b: &[u8], normalise: u8) -> u8
+    ensures { λ r. ⌜ r ≡ asked (isSubtreeRdn (flagged normalise)) (whole rdnP (now (a .entry))) (whole rdnP (now (b .entry))) ⌝ }
+{
+    number_of(subtree::is_subtree_rdn(a, b, normalise != 0))
+}
+
+// No more RDNs, each a subtree of the one at its place.
+#[no_mangle]
+pub extern "C" fn savuneco_is_subtree_of(a: &[u8], b: &[u8], normalise: u8) -> u8
+    ensures { λ r. ⌜ r ≡ asked (isSubtreeOf (flagged normalise)) (whole nameP (now (a .entry))) (whole nameP (now (b .entry))) ⌝ }
+{
+    number_of(subtree::is_subtree_of(a, b, normalise != 0))
+}
+
+// The answer's number.
+fn number_of(answer: Related) -> u8
+    ensures { λ r. ⌜ r ≡ said answer ⌝ }
+{
+    match answer {
+        Related::No => 0,
+        Related::Yes => 1,
+        Related::Stop(fault) => fault.number(),
+    }
+}

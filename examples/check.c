@@ -1,0 +1,85 @@
+/* check CARD: asks the library about a card file, and prints the reply in words, the paths that wait after the first step, and
+   whether one name written in two ways is the same name. */
+#include <inttypes.h>
+#include <stdio.h>
+
+#include "savuneco.h"
+
+/* One byte more than a card file may have, so that a longer file is told from the longest. */
+static uint8_t file[65536];
+
+static const char *const replies[] = {
+    [SAVUNECO_ACCEPTED] = "accepted",
+    [SAVUNECO_REFUSED] = "refused",
+    [SAVUNECO_EXHAUSTED] = "exhausted",
+    [SAVUNECO_EMPTY_CHAIN] = "empty chain",
+    [SAVUNECO_UNKNOWN_EDITION] = "unknown edition",
+    [SAVUNECO_TOO_LONG] = "too long",
+    [SAVUNECO_CUT_SHORT] = "cut short",
+    [SAVUNECO_BAD_COUNT] = "bad count or length",
+    [SAVUNECO_BAD_VALUE] = "bad value",
+    [SAVUNECO_LEFT_OVER] = "bytes left over",
+    [SAVUNECO_NO_ROOM] = "no room",
+};
+
+static void print_path(const uint8_t *places, uint8_t length)
+{
+    for (uint8_t i = 0; i < length; i++)
+        printf(" %d", places[i]);
+}
+
+static void print_answer(savuneco_answer answer)
+{
+    printf("%s", replies[answer.number]);
+    if (answer.number <= SAVUNECO_EXHAUSTED)
+        printf(", steps %" PRIu64, answer.steps);
+    if (answer.number == SAVUNECO_ACCEPTED) {
+        printf(", root %d, path", answer.root);
+        print_path(answer.path, answer.length);
+    }
+    printf("\n");
+}
+
+/* A slot that is not used has length 0. */
+static void print_waiting(const uint8_t *room)
+{
+    printf("after the first step these paths wait, the next one last:");
+    for (size_t at = 0; at < SAVUNECO_ROOM && room[at] != 0; at += SAVUNECO_SLOT) {
+        printf(" [");
+        print_path(room + at + 1, room[at]);
+        printf(" ]");
+    }
+    printf("\n");
+}
+
+static void print_names(void)
+{
+    /* one RDN of one attribute: OID 55 04 03, then the value */
+    static const uint8_t a[] = "\x01\x01\x03\x55\x04\x03\x0C" "Bembo  Roman";
+    static const uint8_t b[] = "\x01\x01\x03\x55\x04\x03\x0B" "bembo roman";
+    size_t a_len = sizeof a - 1, b_len = sizeof b - 1;
+    printf("Bembo  Roman and bembo roman: %s in normal form, %s as they stand\n",
+           savuneco_same_dn(a, a_len, b, b_len, 1) == 1 ? "the same" : "two names",
+           savuneco_same_dn(a, a_len, b, b_len, 0) == 1 ? "the same" : "two names");
+}
+
+int main(int count, char **words)
+{
+    uint8_t room[SAVUNECO_ROOM] = { 0 };
+    FILE *card = count == 2 ? fopen(words[1], "rb") : NULL;
+    if (card == NULL) {
+        fprintf(stderr, "check: give a card file that can be read\n");
+        return 2;
+    }
+    size_t len = fread(file, 1, sizeof file, card);
+    if (ferror(card)) {
+        fprintf(stderr, "check: %s can't be read\n", words[1]);
+        return 2;
+    }
+    fclose(card);
+    print_answer(savuneco_search(file, len, room, sizeof room));
+    savuneco_paused(file, len, 1, room, sizeof room);
+    print_waiting(room);
+    print_names();
+    return 0;
+}

@@ -1,0 +1,127 @@
+/* Savuneco for C: whether the certificates in a card file lead from a host's own certificate to a trusted root.
+
+   Every function answers for every input: there is no input that makes it fail, and none after which it may not be called again.
+   What each one answers is said here in words, and proved of the code in the words of crates/desk/src; docs/CARD-FILE.md has the
+   card file byte by byte, the policy and the order of paths.
+
+   Slices. Bytes are handed over as a pointer and then their number. The caller keeps three things:
+   - each pointer is valid for its number of bytes until the function returns; NULL is allowed where the number is 0, and only there;
+   - what is lent to be written (room, out) overlaps nothing else that is handed over in that call, and nobody else reads or
+     writes it until the function returns; what is only read may overlap other bytes that are only read;
+   - nobody writes what is only read until the function returns.
+
+   Flags (normalise, has_..) are 0 for no and anything else for yes.
+
+   The library keeps nothing between calls, so threads may call it at the same time. It asks for no memory but the stack's (the search
+   took less than 40,000 bytes of it where it was measured, on x86-64), and calls nothing but memcpy and memset. */
+#ifndef SAVUNECO_H
+#define SAVUNECO_H
+
+#include <stddef.h>
+#include <stdint.h>
+
+#ifdef __cplusplus
+extern "C" {
+#endif
+
+/* The replies to a card file. */
+enum {
+    SAVUNECO_ACCEPTED = 0,        /* a path reaches a root under the policy: path, root and steps say which and when */
+    SAVUNECO_REFUSED = 1,         /* no path does; steps is the number of paths */
+    SAVUNECO_EXHAUSTED = 2,       /* none of the first paths does, and the budget does not cover all; steps is the budget */
+    SAVUNECO_EMPTY_CHAIN = 3,     /* the bundle has no certificate */
+    SAVUNECO_UNKNOWN_EDITION = 4, /* the first byte is not 1 */
+    SAVUNECO_TOO_LONG = 5,        /* the file has more than 65,535 bytes */
+    SAVUNECO_CUT_SHORT = 6,       /* the next needed byte is past the end */
+    SAVUNECO_BAD_COUNT = 7,       /* a count or a length outside its range, or not the one number asked */
+    SAVUNECO_BAD_VALUE = 8,       /* a purpose, a verdict, a usage, or a flag without the flag it needs */
+    SAVUNECO_LEFT_OVER = 9,       /* bytes after the task */
+    SAVUNECO_NO_ROOM = 10         /* fewer slots were lent than savuneco_slots asks */
+};
+
+enum {
+    SAVUNECO_PLACES = 16, /* a path has at most so many places */
+    SAVUNECO_SLOT = 17,   /* the bytes of a slot: a length, then 16 places */
+    SAVUNECO_ROOM = 1802  /* the bytes that suffice for every file: 106 slots */
+};
+
+/* The answer to a card file. */
+typedef struct {
+    uint64_t steps;                /* how many paths were taken; 0 in replies from 3 up */
+    uint8_t number;                /* the reply's number, 0 to 10 */
+    uint8_t root;                  /* the root's place among the roots; 0 but in reply 0 */
+    uint8_t length;                /* how many places the path has; 0 but in reply 0 */
+    uint8_t path[SAVUNECO_PLACES]; /* places in the bundle, the host's own certificate first; 0 past the length */
+} savuneco_answer;
+
+/* Searches the file's certificates with the file's own budget. The first path in the order of paths that reaches a root under the
+   policy is accepted, with its lowest such root. A file that can't be read gets 4 to 9, and an empty bundle 3.
+
+   The room is used as slots of 17 bytes; savuneco_slots says how many are needed, and with fewer whole slots the reply is 10.
+   After replies 0, 1 and 2 the needed slots are all zero and every other byte of the room is as it was; after every other reply
+   the whole room is as it was. */
+savuneco_answer savuneco_search(const uint8_t *file, size_t file_len, uint8_t *room, size_t room_len);
+
+/* The same with budget k in place of the file's own, and after replies 0, 1 and 2 the needed slots hold the paths that wait then:
+   those that were not taken, and whose beginning without the last place was. The last one to be taken stands in slot 0, the next
+   one in the highest slot that is used; in a slot the length stands first, then the places; unused places and slots are zero. */
+savuneco_answer savuneco_paused(const uint8_t *file, size_t file_len, uint64_t k, uint8_t *room, size_t room_len);
+
+/* The slots that a bundle of n certificates needs: 0, 1, 1, 2, 4, 7, 11, 16, 22, 29, 37, 46, 56, 67, 79, 92, 106 for n = 0 to 16,
+   and 0 for every other n, since no file has such a bundle. */
+uint8_t savuneco_slots(uint8_t n);
+
+/* The answer of the normaliser. */
+typedef struct {
+    uint64_t length; /* how many bytes were written */
+    uint8_t number;  /* 0, or 10 where there was no room */
+} savuneco_normal;
+
+/* Writes the normal form of s to the start of out: A to Z lowered, of the byte 32 leading and trailing ones gone and inner runs
+   become one. The bytes of out after it stay as they were. Where out_len is less than len the number is 10, the length 0, and
+   nothing is written, however short the normal form is. */
+savuneco_normal savuneco_normalize(const uint8_t *s, size_t len, uint8_t *out, size_t out_len);
+
+/* 1 if the name fits the pattern, else 0, byte for byte. A pattern that does not begin with "*." fits only itself; "*." alone fits
+   nothing; "*." and a domain fits the domain, and one label and a dot before it. No letter is lowered. */
+uint8_t savuneco_match_name(const uint8_t *pattern, size_t pattern_len, const uint8_t *name, size_t name_len);
+
+/* 1 if the address lies in the range, else 0. An address of 4 bytes and a range of 8, or of 16 and 32; every other pair of lengths
+   is 0. The range is a net and then a mask, of any bytes: the address has the net's bits wherever the mask has a one. */
+uint8_t savuneco_ip_addr_in_range(const uint8_t *range, size_t range_len, const uint8_t *addr, size_t addr_len);
+
+/* Attributes, RDNs and names, encoded as in a card file: 1 for yes, 0 for no. Bytes that can't be read get 6 (cut short), 7 (bad
+   count or length) or 9 (bytes left over); the first argument is judged to its end before the second is looked at. No bytes at all
+   are 6. The flag says whether values are compared in normal form; OIDs are compared byte for byte. */
+
+/* Two attributes: equal OIDs and equal values. */
+uint8_t savuneco_same_attr(const uint8_t *a, size_t a_len, const uint8_t *b, size_t b_len, uint8_t normalise);
+
+/* Two RDNs: as many attributes, the same place by place. */
+uint8_t savuneco_same_rdn(const uint8_t *a, size_t a_len, const uint8_t *b, size_t b_len, uint8_t normalise);
+
+/* Two names: as many RDNs, the same place by place. */
+uint8_t savuneco_same_dn(const uint8_t *a, size_t a_len, const uint8_t *b, size_t b_len, uint8_t normalise);
+
+/* An RDN a and an attribute b: some attribute of the RDN is the same as b. */
+uint8_t savuneco_rdn_has_name(const uint8_t *a, size_t a_len, const uint8_t *b, size_t b_len, uint8_t normalise);
+
+/* Two RDNs: a has no more attributes than b, and b has each of them. */
+uint8_t savuneco_is_subtree_rdn(const uint8_t *a, size_t a_len, const uint8_t *b, size_t b_len, uint8_t normalise);
+
+/* Two names: a has no more RDNs than b, and each is a subtree RDN of the one at its place. */
+uint8_t savuneco_is_subtree_of(const uint8_t *a, size_t a_len, const uint8_t *b, size_t b_len, uint8_t normalise);
+
+/* 1 if what a subject says of its issuer's key fits the issuer, else 0: its authority key id equals the issuer's subject key id where
+   both are present, and its authority serial equals the issuer's serial where it is present; byte for byte. A part whose flag is 0
+   is not read: NULL and 0 will do for it. */
+uint8_t savuneco_check_auth_key_id(uint8_t has_akid, const uint8_t *akid, size_t akid_len,
+                                   uint8_t has_aserial, const uint8_t *aserial, size_t aserial_len,
+                                   uint8_t has_skid, const uint8_t *skid, size_t skid_len,
+                                   const uint8_t *serial, size_t serial_len);
+
+#ifdef __cplusplus
+}
+#endif
+
+#endif

@@ -1,0 +1,111 @@
+//! The library behind its C face, and what the reference's answers are in that form.
+
+use crate::files::{Call, Question};
+use reference::{paused, search, Reply};
+
+/// `savuneco_answer`.
+#[repr(C)]
+#[derive(Debug, Clone, PartialEq, Eq)]
+pub struct Answer {
+    steps: u64,
+    number: u8,
+    root: u8,
+    length: u8,
+    path: [u8; 16],
+}
+
+extern "C" {
+    fn savuneco_search(file: *const u8, file_len: usize, room: *mut u8, room_len: usize) -> Answer;
+    fn savuneco_paused(
+        file: *const u8,
+        file_len: usize,
+        k: u64,
+        room: *mut u8,
+        room_len: usize,
+    ) -> Answer;
+}
+
+/// What a call answered, and the bytes that it left in the lent room and on both sides of it.
+#[derive(PartialEq, Eq)]
+pub struct Said {
+    pub answer: Answer,
+    pub room: Vec<u8>,
+}
+
+const FENCE: usize = 64;
+
+fn fenced(room: &[u8]) -> Vec<u8> {
+    [&[0xA5; FENCE], room, &[0xA5; FENCE]].concat()
+}
+
+/// The byte of the room that a place in `Said::room` stands for; negative before it.
+pub fn room_byte(place: usize) -> isize {
+    place as isize - FENCE as isize
+}
+
+pub fn by_library(file: &[u8], question: &Question) -> Said {
+    let mut room = fenced(&question.room);
+    let lent = &mut room[FENCE..FENCE + question.room.len()];
+    // the face takes a null pointer for nothing
+    let (mut file_at, mut lent_at) = (file.as_ptr(), lent.as_mut_ptr());
+    if file.is_empty() {
+        file_at = std::ptr::null();
+    }
+    if lent.is_empty() {
+        lent_at = std::ptr::null_mut();
+    }
+    // SAFETY: each pointer is valid for its length, and the room overlaps nothing else that is in use.
+    let answer = unsafe {
+        match question.call {
+            Call::Search => savuneco_search(file_at, file.len(), lent_at, lent.len()),
+            Call::Paused(k) => savuneco_paused(file_at, file.len(), k, lent_at, lent.len()),
+        }
+    };
+    Said { answer, room }
+}
+
+pub fn by_reference(file: &[u8], question: &Question) -> Said {
+    let said = match question.call {
+        Call::Search => search(file, &question.room),
+        Call::Paused(k) => paused(file, k, &question.room),
+    };
+    let mut answer = Answer {
+        steps: said.reply.steps(),
+        number: said.reply.number(),
+        root: 0,
+        length: 0,
+        path: [0; 16],
+    };
+    if let Reply::Accepted { root, path, .. } = &said.reply {
+        answer.root = *root as u8;
+        answer.length = path.len() as u8;
+        for (byte, place) in answer.path.iter_mut().zip(path) {
+            *byte = *place as u8;
+        }
+    }
+    Said {
+        answer,
+        room: fenced(&said.room),
+    }
+}
+
+impl Said {
+    pub fn number(&self) -> u8 {
+        self.answer.number
+    }
+
+    pub fn steps(&self) -> u64 {
+        self.answer.steps
+    }
+
+    pub fn path_length(&self) -> u8 {
+        self.answer.length
+    }
+
+    /// How many paths the needed slots hold.
+    pub fn waiting(&self, slots: usize) -> usize {
+        let lent = &self.room[FENCE..self.room.len() - FENCE];
+        let used = |slot: &&[u8]| slot[0] > 0;
+        lent.chunks_exact(17).take(slots).filter(used).count()
+    }
+}

@@ -1,0 +1,129 @@
+//! The paper's worked cases: "Cards pulled from the drawer".
+
+use crate::card::Attribute;
+use crate::names::{same_dn, same_rdn};
+use crate::room::{ENOUGH, SLOT, SLOTS};
+use crate::text::{match_name, normalise};
+use crate::{paused, search, terminal};
+
+fn line(file: &[u8]) -> String {
+    terminal(file).to_string()
+}
+
+/// A record of 26 bytes: no names, no dates, nothing optional.
+fn plain(flags: u8) -> Vec<u8> {
+    let mut record = vec![2, flags];
+    record.extend([0; 16]);
+    record.extend([1, 1, 1, 0x2A, 1, 0x2A, 0, 0, 0, 0]);
+    record
+}
+
+/// A file of plain records in which every verdict is 1.
+fn complete(roots: usize, bundle: usize, budget: u64) -> Vec<u8> {
+    let verdicts = (roots + bundle) * bundle;
+    let mut file = vec![1, roots as u8];
+    file.extend(plain(8).repeat(roots));
+    file.push(bundle as u8);
+    file.extend(plain(8).repeat(bundle));
+    file.extend((verdicts as u16).to_be_bytes());
+    file.extend(vec![1; verdicts]);
+    file.push(1);
+    file.extend([0; 8]);
+    file.extend(budget.to_be_bytes());
+    file.extend([0, 0]);
+    file
+}
+
+#[test]
+fn text() {
+    assert_eq!(normalise(b"  Bembo   Roman "), b"bembo roman");
+    assert_eq!(normalise(b"   "), b"");
+    assert_eq!(normalise(b"\tA "), b"\ta");
+}
+
+#[test]
+fn patterns() {
+    let domain = b"*.a.com";
+    assert!(match_name(domain, b"a.com"));
+    assert!(match_name(domain, b"x.a.com"));
+    assert!(!match_name(domain, b".a.com"));
+    assert!(!match_name(domain, b"x.y.a.com"));
+    assert!(!match_name(b"*.", b"*."));
+    assert!(!match_name(b"*.", b""));
+    assert!(match_name(b"*", b"*"));
+    assert!(!match_name(b"*", b"x"));
+}
+
+#[test]
+fn names() {
+    let attribute = |oid: &'static [u8]| Attribute { oid, value: b"" };
+    let ab = || vec![attribute(b"a"), attribute(b"b")];
+    let ba = || vec![attribute(b"b"), attribute(b"a")];
+    assert!(same_rdn(&ab(), &ab()));
+    assert!(!same_rdn(&ab(), &ba()));
+    assert!(same_dn(&[ab(), ba()], &[ab(), ba()]));
+    assert!(!same_dn(&[ab()], &[ab(), ba()]));
+    assert!(same_dn(&[], &[]));
+}
+
+#[test]
+fn whole_files() {
+    let mut empty = vec![1, 0, 0, 0, 0, 1];
+    empty.extend([0; 18]);
+    assert_eq!(line(&empty), "ERROR 3");
+    empty.push(0);
+    assert_eq!(line(&empty), "ERROR 9");
+    assert_eq!(line(b""), "ERROR 6");
+
+    let mut one = vec![1, 1];
+    one.extend(plain(8));
+    one.push(1);
+    one.extend(plain(0));
+    one.extend([0, 2, 1, 0, 1]);
+    one.extend([0; 15]);
+    one.extend([1, 0, 0]);
+    assert_eq!(one.len(), 82);
+    assert_eq!(line(&one), "ACCEPT steps 1 root 0 path 0");
+    one[79] = 0;
+    assert_eq!(line(&one), "EXHAUSTED steps 0");
+}
+
+#[test]
+fn four_that_issue_each_other() {
+    assert_eq!(line(&complete(0, 4, 16)), "REFUSE steps 16");
+    assert_eq!(line(&complete(0, 4, 15)), "EXHAUSTED steps 15");
+    let file = complete(0, 4, 0);
+    let mut taken = Vec::new();
+    for k in 0..5 {
+        let room = paused(&file, k, &ENOUGH).room;
+        let waiting = crate::room::shown(&room);
+        assert!(waiting.len() <= 4);
+        taken.push(waiting[waiting.len() - 1].to_vec());
+    }
+    assert_eq!(
+        taken,
+        [&[0][..], &[0, 3], &[0, 3, 2], &[0, 3, 2, 1], &[0, 3, 1]]
+    );
+}
+
+#[test]
+fn limits() {
+    assert_eq!(line(&complete(0, 16, 3)), "EXHAUSTED steps 3");
+    assert_eq!(line(&complete(0, 17, 3)), "ERROR 7");
+    let file = complete(0, 16, 1);
+    let room = vec![9; 106 * SLOT];
+    let short = search(&file, &room[..106 * SLOT - 1]);
+    assert_eq!(short.reply.number(), 10);
+    assert_eq!(short.room, &room[..106 * SLOT - 1]);
+    let enough = search(&file, &room);
+    assert_eq!(enough.reply.number(), 2);
+    assert_eq!(enough.room, [0; 106 * SLOT]);
+}
+
+#[test]
+fn the_table_has_its_formula() {
+    assert_eq!(SLOTS[0], 0);
+    for n in 1..17 {
+        assert_eq!(SLOTS[n], (n - 1) * n.saturating_sub(2) / 2 + 1);
+    }
+}
