@@ -1,0 +1,71 @@
+-- `tray::show::paths` meets its contract. The loop's invariant: `at` is at most the length. Assumes nothing.
+use borrow.Author.Needs.{needs}
+use Prim.Native.Nat.{_≤_, _-_}
+use lib.ListN.{length}
+use Rattle.tray.proofs.show.paths.Statement.{statement}
+use Rattle.tray.proofs.show.paths.Tie as tie
+
+abbrev Inv-loop : tie.InvT-loop
+Inv-loop s at₀ at = at ≤ length s
+
+abbrev μ-loop : tie.MeasureT-loop
+μ-loop s at₀ at = length s - at
+
+loop-holds : tie.Need-loop-holds Inv-loop μ-loop
+loop-holds c = search needs
+
+sub-loop : tie.Need-sub-loop Inv-loop μ-loop
+sub-loop c = search needs
+
+add-slot : tie.Need-add-slot Inv-loop μ-loop
+add-slot c = search needs
+
+sub-slot : tie.Need-sub-slot Inv-loop μ-loop
+sub-slot c = search needs
+
+part-slot-start : tie.Need-part-slot-start Inv-loop μ-loop
+part-slot-start c = search needs
+
+part-slot-end : tie.Need-part-slot-end Inv-loop μ-loop
+part-slot-end c = search needs
+
+is-path-requires : tie.Need-is-path-requires Inv-loop μ-loop
+is-path-requires c κs = search needs
+
+path-requires : tie.Need-path-requires Inv-loop μ-loop
+path-requires c κs = search needs
+
+add-at : tie.Need-add-at Inv-loop μ-loop
+add-at c = search needs
+
+loop-less : tie.Need-loop-less Inv-loop μ-loop
+loop-less c = search needs
+
+loop-again : tie.Need-loop-again Inv-loop μ-loop
+loop-again c = search needs
+
+returns : tie.Need-returns Inv-loop μ-loop
+returns c = search needs
+
+returns-2 : tie.Need-returns-2 Inv-loop μ-loop
+returns-2 c = search needs
+
+pub paths-spec : {M : Type 1} → statement M
+paths-spec =
+    tie.close
+    (tie.spec
+    Inv-loop
+    μ-loop
+    loop-holds
+    sub-loop
+    add-slot
+    sub-slot
+    part-slot-start
+    part-slot-end
+    is-path-requires
+    path-requires
+    add-at
+    loop-less
+    loop-again
+    returns
+    returns-2)
