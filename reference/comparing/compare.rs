@@ -13,6 +13,7 @@ mod plans;
 mod random;
 mod tally;
 mod terminal;
+mod watch;
 mod wording;
 
 use files::{bounded, make, questions, Call, Made, Question};
@@ -24,6 +25,7 @@ use std::path::{Path, PathBuf};
 use std::process::ExitCode;
 use tally::Tally;
 use terminal::Terminal;
+use watch::Watch;
 
 /// How many files of a run go through the terminal too.
 const TERMINAL_FILES: u64 = 300;
@@ -31,6 +33,7 @@ const TERMINAL_FILES: u64 = 300;
 struct Run {
     out: PathBuf,
     tally: Tally,
+    watch: Watch,
     passed: u64,
     failed: u64,
 }
@@ -122,6 +125,7 @@ impl Run {
         Run {
             out: out.into(),
             tally: Tally::new(),
+            watch: Watch::start(),
             passed: 0,
             failed: 0,
         }
@@ -135,14 +139,24 @@ impl Run {
     }
 
     fn end(self) -> ExitCode {
+        self.watch.rest();
         print!("{}", self.tally);
         println!("{} passed, {} failed", self.passed, self.failed);
         ExitCode::from(u8::from(self.failed > 0))
     }
 
+    /// A file that gets no answer is a difference, and the last one of the run.
+    fn begin(&self, title: &str) {
+        let (passed, failed) = (self.passed, self.failed + 1);
+        let counts = format!("{passed} passed, {failed} failed");
+        let late = format!("DIFFERENCE {title}: no answer in a minute\n{counts}");
+        self.watch.begin(late);
+    }
+
     /// Puts each question to both; says whether all their answers are the same.
     fn compare(&mut self, title: &str, file: &Made, questions: &[Question]) -> bool {
         self.tally.file(file.bytes.len());
+        self.begin(title);
         let mut same = true;
         for question in questions {
             let before = file.bytes.clone();
@@ -194,11 +208,8 @@ impl Run {
             Ok(()) => format!("kept as {}", kept.display()),
             Err(error) => format!("not kept: {}: {error}", kept.display()),
         };
-        let head: Vec<String> = bytes
-            .iter()
-            .take(40)
-            .map(|byte| format!("{byte:02X}"))
-            .collect();
+        let head = bytes.iter().take(40);
+        let head: Vec<String> = head.map(|byte| format!("{byte:02X}")).collect();
         println!("DIFFERENCE {title}: {call}");
         println!("  file       {} bytes, {kept}", bytes.len());
         println!("             {}", head.join(" "));

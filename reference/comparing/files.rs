@@ -19,7 +19,7 @@ pub struct Question {
     pub room: Vec<u8>,
 }
 
-/// A file whose search takes a bearable number of steps, even one that goes wrong.
+/// A file whose search takes a bearable number of steps, also one that misses the path to accept.
 pub struct Made {
     pub bytes: Vec<u8>,
     pub bundle: usize,
