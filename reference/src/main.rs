@@ -1,11 +1,15 @@
 //! `reference`: reads a card file from standard input and prints the terminal's line.
 //! `reference paused K`: the line of the paused run, then a line for each waiting path, the bottom one first.
+//! `reference waiting CARD...`: the same of the card files named, each for k = 0, 1, 2, one less than the number of simple paths
+//! and that number, with K:NAME before each run's line. It is how the paused runs of crates/replay were recorded.
 
-use reference::{paused, room, terminal};
+use reference::{paused, reader, room, search, terminal};
+use std::collections::BTreeSet;
 use std::io::{self, Read};
+use std::path::Path;
 use std::process::ExitCode;
 
-const USAGE: &str = "usage: reference [paused K] < card";
+const USAGE: &str = "usage: reference [paused K] < card, or reference waiting CARD...";
 
 fn main() -> ExitCode {
     let words: Vec<String> = std::env::args().skip(1).collect();
@@ -16,7 +20,31 @@ fn main() -> ExitCode {
             Ok(k) => answer(|file| print_paused(file, k)),
             Err(_) => fail(USAGE),
         },
+        ["waiting", ref cards @ ..] if !cards.is_empty() => record(cards),
         _ => fail(USAGE),
+    }
+}
+
+fn record(cards: &[&str]) -> ExitCode {
+    for card in cards {
+        match std::fs::read(card) {
+            Ok(file) => print_waiting(Path::new(card), &file),
+            Err(error) => return fail(&format!("reference: {card}: {error}")),
+        }
+    }
+    ExitCode::SUCCESS
+}
+
+/// A card whose file can't be read, or with no certificates, has no paths, and every run of it says so.
+fn print_waiting(card: &Path, file: &[u8]) {
+    let name = card.file_name().unwrap_or_default().to_string_lossy();
+    let paths = match reader::read(file) {
+        Ok(read) if !read.bundle.is_empty() => search::number_of_paths(&read),
+        _ => 0,
+    };
+    for k in BTreeSet::from([0, 1, 2, paths.saturating_sub(1), paths]) {
+        print!("{k}:{name} ");
+        print_paused(file, k);
     }
 }
 

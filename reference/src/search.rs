@@ -25,6 +25,18 @@ pub fn validate(card: &Card, budget: u64) -> (Reply, Vec<Vec<usize>>) {
     (Reply::Refused { steps }, stack)
 }
 
+/// The number of simple paths, found by taking them all. The bundle must not be empty.
+pub fn number_of_paths(card: &Card) -> u64 {
+    let issuers = Issuers::of(card);
+    let mut stack: Vec<Vec<usize>> = vec![vec![0]];
+    let mut number = 0;
+    while let Some(path) = stack.pop() {
+        number += 1;
+        push_extensions(&mut stack, &path, &issuers);
+    }
+    number
+}
+
 fn last_of(path: &[usize]) -> usize {
     path[path.len() - 1]
 }
