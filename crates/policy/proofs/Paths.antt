@@ -1,8 +1,8 @@
--- What a path's two loops go by. Each place stands: `stand-starts`, `stand-goes-on`, `stand-ends`, or the first that does not:
--- `stand-past`, `stand-lacks`, `stand-far`. The lowest root above: `above-starts`, `above-goes-on`, `above-found`, `above-ends`, with
--- `unissued`, `unsound`, `far` for a root that is passed over, and `above-none` where no root issued. The path's own root from the two:
--- `root-nowhere`, `root-past`, `root-lacks`, `root-stands`. Assumes nothing.
-use Prim.Native.Nat.{ℕ, zero, suc, _+_, _-_, _<_, _≤_}
+-- What a path's two loops go by. Each place stands: `stand-goes-on`, `stand-ends`, or the first that does not: `stand-past`,
+-- `stand-lacks`, `stand-far`. The lowest root above: `above-starts`, `above-found`, `above-ends`, with `unissued`, `unsound`, `far` for a
+-- root that is passed over. The path's own root: `root-nowhere`, `root-past`, `root-unissued`, `root-lacks`, `root-stands`. The first that
+-- passes a test that none passes: `seek-none`. Assumes nothing.
+use Prim.Native.Nat.{ℕ, suc, _+_, _-_, _<_, _≤_}
 use mathlib.Core.Bool.{Bool, true, false, cond, _&&_}
 use mathlib.Core.List.{List, [], _∷_}
 use mathlib.Core.Path.{_≡_, refl, sym, _∙_}
@@ -13,7 +13,7 @@ use lib.Dec.{ltb}
 use lib.ListN.{length, getD, drop, drop-of-length-le}
 use lib.Seq.{drop-cons}
 use Rattle.rows.specs.Rows.{has, seek}
-use Rattle.rows.proofs.Places.{has-none}
+use Rattle.rows.proofs.Places.{has-none, seek-is}
 use Rattle.policy.specs.Judging.{lastOf, stands, allStand, lowestAbove, judgedRoot}
 
 -- ---- each place after the first
@@ -100,16 +100,16 @@ module _ (issued sound : ℕ) (limits : List ℕ) (n : ℕ) where
     unfolding stands
     above-found i s h = above-next ∙ rw (i, s, le-leb n (getD limits r 0) h)
 
--- none passes where there is none
-seek-none : (test : ℕ → Bool) → ((i : ℕ) → test i ≡ false) → (a n : ℕ) → seek test a n ≡ a + n
-unfolding seek
-seek-none test h a zero = omega arith
-seek-none test h a (suc n) = rw (h a) (seek-none test h (a + 1) n ∙ omega arith)
+-- ---- where no root issued
 
-pub above-none : (issued sound : ℕ) (limits : List ℕ) (n : ℕ) → issued ≡ 0 → lowestAbove issued sound limits n ≡ 32
+-- the first of n that passes a test that none passes
+pub seek-none : (test : ℕ → Bool) (n : ℕ) → ((i : ℕ) → test i ≡ false) → seek test 0 n ≡ n
+seek-none test n h =
+    sym (seek-is test 0 n n (record { from = omega arith; within = omega arith; below = λ i _ _. h i; passes = λ l. absurd (omega arith) }))
+
+above-none : (sound : ℕ) (limits : List ℕ) (n : ℕ) → lowestAbove 0 sound limits n ≡ 32
 unfolding lowestAbove
-above-none issued sound limits n e =
-    seek-none (tops issued sound limits n) (λ i. rw (e, has-none i)) 0 32
+above-none sound limits n = seek-none (tops 0 sound limits n) 32 (λ i. rw (has-none i))
 
 -- ---- the path's root
 
@@ -135,6 +135,16 @@ module _ (issued : List ℕ) (between : ℕ) (limits : List ℕ) (above : ℕ) (
   pub root-past : (path : List ℕ) → 16 ≤ end path → root path ≡ 32
   root-past [] h = refl
   root-past (p ∷ l) h = let k : 16 ≤ lastOf p l = rw (sym (end-is p l)) h in rw (le-ltb (lastOf p l) 16 k)
+
+  pub root-unissued : (path : List ℕ) → getD issued (end path) 0 ≡ 0 → root path ≡ 32
+  root-unissued [] e = refl
+  root-unissued (p ∷ l) e =
+      let none : getD issued (lastOf p l) 0 ≡ 0 = rw (sym (end-is p l)) e in
+      rw (none, above-none above tops (length l)) (nowhere (ltb (lastOf p l) 16 && allStand between limits 0 l) 32)
+    where
+      nowhere : (b : Bool) (r : ℕ) → cond b r r ≡ r
+      nowhere true r = refl
+      nowhere false r = refl
 
   pub root-lacks : (path : List ℕ) → allStand between limits 0 (drop 1 path) ≡ false → root path ≡ 32
   root-lacks [] e = refl

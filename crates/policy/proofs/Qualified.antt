@@ -24,6 +24,7 @@ use Rattle.policy.specs.Sound.{topSound, soundPlaces, placeLimits, rootL
 use Rattle.policy.specs.Judging.{lastOf, stands, allStand, lowestAbove, judgedRoot}
 use Rattle.policy.specs.Qualifies.{qualifies, lowestRoot}
 use Rattle.policy.proofs.Chains.{allBetween, leafSound, bySeat, policy-by-seat}
+use Rattle.policy.proofs.Paths.{seek-none}
 use Rattle.policy.proofs.Seats.{Inside, all-stand-read, top-read}
 
 -- ---- tests
@@ -34,11 +35,6 @@ two-orders true true t a = refl
 two-orders true false t a = refl
 two-orders false true t a = refl
 two-orders false false t a = refl
-
--- the first of n that passes a test that none passes
-seek-none : (test : ℕ → Bool) (n : ℕ) → ((i : ℕ) → test i ≡ false) → n ≡ seek test 0 n
-seek-none test n h =
-    seek-is test 0 n n (record { from = omega arith; within = omega arith; below = λ i _ _. h i; passes = λ l. absurd (omega arith) })
 
 pub last-inside : (n p : ℕ) (l : List ℕ) → p < n → Inside n l → lastOf p l < n
 last-inside n p [] h k = h
@@ -99,7 +95,7 @@ module _ (s : List ℕ) (c : Card) (e : ℕ) (t : CardRead s c e) where
     by-between true k =
         seek-same _ (qualifies content (0 ∷ l)) 0 32 (λ r _ _. ap (λ b. b && (has r issuers && above r)) (sym k) ∙ root-judged r)
     by-between false k =
-        seek-none (qualifies content (0 ∷ l)) 32 (λ r. sym (root-judged r) ∙ ap (λ b. b && (has r issuers && above r)) k)
+        sym (seek-none (qualifies content (0 ∷ l)) 32 (λ r. sym (root-judged r) ∙ ap (λ b. b && (has r issuers && above r)) k))
 
     pub judged-root : judgedRoot (rootRows s (c .roots) (c .bundle) (c .verdicts)) (soundPlaces s (c .task .now) (c .bundle))
         (placeLimits s (c .bundle)) (rootsAbove s (c .task .now) c) (rootLimits s (c .roots)) (0 ∷ l)
@@ -150,4 +146,4 @@ module _ (s : List ℕ) (c : Card) (e : ℕ) (t : CardRead s c e) where
           let least = seek-least (qualifies content p) 0 n in
           sym (seek-is (qualifies content p) 0 32 r
           (record { from = omega arith; within = omega arith; below = least .below; passes = λ _. least .passes (omega arith) }))
-      by-test false k = sym (seek-none (qualifies content p) 32 (none-qualifies p (ltb-false r n k)))
+      by-test false k = seek-none (qualifies content p) 32 (none-qualifies p (ltb-false r n k))

@@ -2,7 +2,6 @@
 use card::Bundle;
 use card::BundlePlace;
 use card::Card;
-use card::RootPlace;
 use card::Roots;
 use fields::part;
 use record::Record;
@@ -116,6 +115,7 @@ fn limit(cert: Record) -> usize
     NO_LIMIT
 }
 
+// A record is read where it stands in the array: fetched by its place, all of them would be copied each turn.
 fn places_between(file: &[u8], time: u64, bundle: Bundle) -> Between
     ensures { λ r. ⌜ (r .sound ≡ soundPlaces (now (file .entry)) time bundle) × (r .limits ≡ placeLimits (now (file .entry)) bundle) ⌝ }
 {
@@ -124,7 +124,7 @@ fn places_between(file: &[u8], time: u64, bundle: Bundle) -> Between
     let mut limits = [0usize; Bundle::MOST];
     let mut i: u8 = 0;
     while i < n {
-        let record = bundle.record(BundlePlace(i));
+        let record = bundle.records[i as usize];
         limits[i as usize] = limit(record);
         if between_sound(file, time, record) {
             sound = with(sound, i);
@@ -142,7 +142,7 @@ fn roots_above(time: u64, roots: Roots) -> Above
     let mut limits = [0usize; Roots::MOST];
     let mut i: u8 = 0;
     while i < n {
-        let record = roots.record(RootPlace(i));
+        let record = roots.records[i as usize];
         limits[i as usize] = limit(record);
         if top_sound(time, record) {
             sound = with(sound, i);

@@ -33,8 +33,13 @@ pub fn lowest_root(
     if Bundle::MOST <= last {
         return Top::None;
     }
+    // Most paths end in a place that no root issued: they need not be walked.
+    let reached = issued[last];
+    if reached == 0 {
+        return Top::None;
+    }
     if all_stand(path, between, limits) {
-        return lowest_above(issued[last], above, tops, n - 1);
+        return lowest_above(reached, above, tops, n - 1);
     }
     Top::None
 }
@@ -64,9 +69,6 @@ fn all_stand(path: &[u8], between: u64, limits: &[usize; 16]) -> bool
 fn lowest_above(issued: u64, above: u64, limits: &[usize; 32], n: usize) -> Top
     ensures { λ r. ⌜ r ≡ topOf (lowestAbove issued above (now (limits .entry)) n) ⌝ }
 {
-    if issued == 0 {
-        return Top::None;
-    }
     let mut r: u8 = 0;
     while (r as usize) < Roots::MOST {
         if has(issued, r) {

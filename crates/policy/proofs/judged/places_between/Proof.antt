@@ -7,7 +7,7 @@ use mathlib.Core.Logic.{⊎-elim}
 use mathlib.Core.Path.{sym, ap, _∙_}
 use Rattle.record.specs.Certificate.{certificateOf}
 use Rattle.policy.specs.Sound.{betweenSound, limitOf, placeOf, soundPlaces, placeLimits}
-use Rattle.policy.proofs.Places.{Judging, size-within, judging-starts, judging-joins, judging-passes, judging-ends}
+use Rattle.policy.proofs.Places.{Judging, size-within, record-counted, judging-starts, judging-joins, judging-passes, judging-ends}
 use Rattle.policy.proofs.judged.places_between.Statement.{statement}
 use Rattle.policy.proofs.judged.places_between.Tie as tie
 
@@ -26,8 +26,14 @@ loop-holds c =
     let n = c .size .ensures in
     (rw n (size-within 16 _), omega arith, judging-starts _ _ 16)
 
-record-requires : tie.Need-record-requires Inv-loop μ-loop
-record-requires c κs = search needs
+cast-record : tie.Need-cast-record Inv-loop μ-loop
+cast-record c = search needs
+
+mul-record : tie.Need-mul-record Inv-loop μ-loop
+mul-record c = search needs
+
+element-copy-out-record : tie.Need-element-copy-out-record Inv-loop μ-loop
+element-copy-out-record c = search needs
 
 limit-requires : tie.Need-limit-requires Inv-loop μ-loop
 limit-requires c κs = search needs
@@ -61,8 +67,9 @@ loop-again c =
     let a = t .before .before .before .before .args in
     let s = a .file .now in
     let j = t .before .loop .inv in
-    let limit = l .limit .ensures s ∙ ap (λ r. limitOf (certificateOf r s)) (p .«record» .ensures) in
-    let test = sym (c .before .between-sound .ensures ∙ ap (λ r. betweenSound (a .time) (certificateOf r s)) (p .«record» .ensures)) in
+    let read = record-counted 16 (a .t3 .count) (a .t3 .records) _ _ (t .before .before .size .ensures) (t .loop-test .taken) in
+    let limit = l .limit .ensures s ∙ ap (λ r. limitOf (certificateOf r s)) read in
+    let test = sym (c .before .between-sound .ensures ∙ ap (λ r. betweenSound (a .time) (certificateOf r s)) read) in
     let room : t .before .loop .i < 16 = omega arith in (
       omega arith,
       omega arith,
@@ -85,7 +92,9 @@ places-between-spec =
     μ-loop
     size-requires
     loop-holds
-    record-requires
+    cast-record
+    mul-record
+    element-copy-out-record
     limit-requires
     cast-limits
     mul-limits

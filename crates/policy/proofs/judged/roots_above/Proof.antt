@@ -8,7 +8,7 @@ use mathlib.Core.Logic.{⊎-elim}
 use mathlib.Core.Path.{sym, ap, _∙_}
 use Rattle.record.specs.Certificate.{certificateOf}
 use Rattle.policy.specs.Sound.{topSound, limitOf, rootOf, soundRoots, rootLimits}
-use Rattle.policy.proofs.Places.{Judging, size-within, judging-starts, judging-joins, judging-passes, judging-ends}
+use Rattle.policy.proofs.Places.{Judging, size-within, record-counted, judging-starts, judging-joins, judging-passes, judging-ends}
 use Rattle.policy.proofs.judged.roots_above.Statement.{statement}
 use Rattle.policy.proofs.judged.roots_above.Tie as tie
 
@@ -27,8 +27,14 @@ size-requires c κs = search needs
 loop-holds : tie.Need-loop-holds Inv-loop μ-loop
 loop-holds c = (rw (c .size .ensures) (size-within 32 _), omega arith, λ s. judging-starts _ _ 32)
 
-record-requires : tie.Need-record-requires Inv-loop μ-loop
-record-requires c κs = search needs
+cast-record : tie.Need-cast-record Inv-loop μ-loop
+cast-record c = search needs
+
+mul-record : tie.Need-mul-record Inv-loop μ-loop
+mul-record c = search needs
+
+element-copy-out-record : tie.Need-element-copy-out-record Inv-loop μ-loop
+element-copy-out-record c = search needs
 
 limit-requires : tie.Need-limit-requires Inv-loop μ-loop
 limit-requires c κs = search needs
@@ -59,14 +65,15 @@ loop-again c =
     let l = c .before .before in
     let p = l .before in
     let t = p .before in
-    let time = t .before .before .before .args .time in
+    let a = t .before .before .before .args in
     let j = t .before .loop .inv in
+    let read = record-counted 32 (a .t2 .count) (a .t2 .records) _ _ (t .before .before .size .ensures) (t .loop-test .taken) in
     let room : t .before .loop .i < 32 = omega arith in (
       omega arith,
       omega arith,
       λ s.
-          let limit = l .limit .ensures s ∙ ap (λ r. limitOf (certificateOf r s)) (p .«record» .ensures) in
-          let test = sym (c .before .top-sound .ensures s ∙ ap (λ r. topSound time (certificateOf r s)) (p .«record» .ensures)) in
+          let limit = l .limit .ensures s ∙ ap (λ r. limitOf (certificateOf r s)) read in
+          let test = sym (c .before .top-sound .ensures s ∙ ap (λ r. topSound (a .time) (certificateOf r s)) read) in
           ⊎-elim (λ w. judging-joins _ _ _ _ _ _ (j .2 s) room _ _ limit (test ∙ w .0 .taken) (w .2 ∙ w .1 .ensures))
           (λ w. judging-passes _ _ _ _ _ _ (j .2 s) room _ _ limit (test ∙ w .0 .left) (w .1))
           (c .if1 .came),
@@ -86,7 +93,9 @@ roots-above-spec =
     μ-loop
     size-requires
     loop-holds
-    record-requires
+    cast-record
+    mul-record
+    element-copy-out-record
     limit-requires
     cast-limits
     mul-limits

@@ -7,7 +7,7 @@ use mathlib.Core.Logic.{⊎-elim}
 use borrow.Author.Tests.{lt-ltb}
 use mathlib.Core.Path.{_≡_, sym, ap, _∙_}
 use Rattle.policy.specs.Judging.{lowestAbove, topOf}
-use Rattle.policy.proofs.Paths.{lowestFrom, above-starts, above-ends, above-found, above-none, unissued, unsound, far}
+use Rattle.policy.proofs.Paths.{lowestFrom, above-starts, above-ends, above-found, unissued, unsound, far}
 use Rattle.policy.proofs.path.lowest_above.Statement.{statement}
 use Rattle.policy.proofs.path.lowest_above.Tie as tie
 
@@ -16,9 +16,6 @@ Inv-loop issued above limits n r₀ r = (r ≤ 32) × (lowestAbove issued above 
 
 abbrev μ-loop : tie.MeasureT-loop
 μ-loop issued above limits n r₀ r = 32 - r
-
-returns : tie.Need-returns Inv-loop μ-loop
-returns c = sym (ap topOf (above-none _ _ _ _ (c .if1 .taken)))
 
 loop-holds : tie.Need-loop-holds Inv-loop μ-loop
 loop-holds c = (omega arith, above-starts _ _ _ _)
@@ -32,23 +29,23 @@ has-requires c κs = search needs
 has-requires-2 : tie.Need-has-requires-2 Inv-loop μ-loop
 has-requires-2 c κs = search needs
 
-cast-if4 : tie.Need-cast-if4 Inv-loop μ-loop
-cast-if4 c = search needs
+cast-if3 : tie.Need-cast-if3 Inv-loop μ-loop
+cast-if3 c = search needs
 
-mul-if4 : tie.Need-mul-if4 Inv-loop μ-loop
-mul-if4 c = search needs
+mul-if3 : tie.Need-mul-if3 Inv-loop μ-loop
+mul-if3 c = search needs
 
-element-copy-out-if4 : tie.Need-element-copy-out-if4 Inv-loop μ-loop
-element-copy-out-if4 c = search needs
+element-copy-out-if3 : tie.Need-element-copy-out-if3 Inv-loop μ-loop
+element-copy-out-if3 c = search needs
 
-returns-2 : tie.Need-returns-2 Inv-loop μ-loop
-returns-2 c =
+returns : tie.Need-returns Inv-loop μ-loop
+returns c =
     let s = c .before .before in
     let i = s .before .before in
     let t = i .before .before in
-    let issues = sym (i .before .has .ensures) ∙ i .if2 .taken in
-    let sound = sym (s .before .has2 .ensures) ∙ s .if3 .taken in
-    sym (ap topOf (t .before .loop .inv .1 ∙ above-found _ _ _ _ _ (t .loop-test .taken) issues sound (c .if4 .taken)) ∙ rw (lt-ltb _ 32 (t .loop-test .taken)))
+    let issues = sym (i .before .has .ensures) ∙ i .if1 .taken in
+    let sound = sym (s .before .has2 .ensures) ∙ s .if2 .taken in
+    sym (ap topOf (t .before .loop .inv .1 ∙ above-found _ _ _ _ _ (t .loop-test .taken) issues sound (c .if3 .taken)) ∙ rw (lt-ltb _ 32 (t .loop-test .taken)))
 
 add-r : tie.Need-add-r Inv-loop μ-loop
 add-r c = search needs
@@ -64,11 +61,11 @@ loop-again c =
       t .before .loop .inv .1
           ∙ ⊎-elim (λ w. far _ _ _ _ _ k (w .4 .left))
           (⊎-elim (λ w. unsound _ _ _ _ _ k (sym (w .1 .ensures) ∙ w .2 .left)) (λ w. unissued _ _ _ _ _ k (sym (c .before .has .ensures) ∙ w .left)))
-          (c .if2 .came),
+          (c .if1 .came),
     )
 
-returns-3 : tie.Need-returns-3 Inv-loop μ-loop
-returns-3 c = sym (ap topOf (c .before .loop .inv .1 ∙ above-ends _ _ _ _ _ (c .before .loop .inv .0) (c .loop-test .left)))
+returns-2 : tie.Need-returns-2 Inv-loop μ-loop
+returns-2 c = sym (ap topOf (c .before .loop .inv .1 ∙ above-ends _ _ _ _ _ (c .before .loop .inv .0) (c .loop-test .left)))
 
 pub lowest-above-spec : {M : Type 1} → statement M
 lowest-above-spec =
@@ -76,16 +73,15 @@ lowest-above-spec =
     (tie.spec
     Inv-loop
     μ-loop
-    returns
     loop-holds
     cast-loop
     has-requires
     has-requires-2
-    cast-if4
-    mul-if4
-    element-copy-out-if4
-    returns-2
+    cast-if3
+    mul-if3
+    element-copy-out-if3
+    returns
     add-r
     loop-less
     loop-again
-    returns-3)
+    returns-2)

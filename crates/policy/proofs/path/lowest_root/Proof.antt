@@ -5,7 +5,7 @@ use Prim.Native.Nat.{_-_}
 use lib.ListN.{length}
 use mathlib.Core.Path.{sym, ap, _∙_}
 use Rattle.policy.specs.Judging.{topOf}
-use Rattle.policy.proofs.Paths.{root-nowhere, root-past, root-lacks, root-stands}
+use Rattle.policy.proofs.Paths.{root-nowhere, root-past, root-unissued, root-lacks, root-stands}
 use Rattle.policy.proofs.path.lowest_root.Statement.{statement}
 use Rattle.policy.proofs.path.lowest_root.Tie as tie
 
@@ -30,14 +30,19 @@ returns-2 c =
     let a = c .before .before .before .before .args in
     sym (ap topOf (root-past (a .issued .now) (a .between) (a .limits .now) (a .above) (a .tops .now) (a .path .now) (c .if2 .taken)))
 
+mul-reached : tie.Need-mul-reached
+mul-reached c = search needs
+
+element-copy-out-reached : tie.Need-element-copy-out-reached
+element-copy-out-reached c = search needs
+
+returns-3 : tie.Need-returns-3
+returns-3 c =
+    let a = c .before .before .before .before .before .before .args in
+    sym (ap topOf (root-unissued (a .issued .now) (a .between) (a .limits .now) (a .above) (a .tops .now) (a .path .now) (c .if3 .taken)))
+
 all-stand-requires : tie.Need-all-stand-requires
 all-stand-requires c κs = search needs
-
-mul-lowest-above : tie.Need-mul-lowest-above
-mul-lowest-above c = search needs
-
-element-copy-out-lowest-above : tie.Need-element-copy-out-lowest-above
-element-copy-out-lowest-above c = search needs
 
 sub-lowest-above : tie.Need-sub-lowest-above
 sub-lowest-above c = search needs
@@ -45,11 +50,11 @@ sub-lowest-above c = search needs
 lowest-above-requires : tie.Need-lowest-above-requires
 lowest-above-requires c κs = search needs
 
-returns-3 : tie.Need-returns-3
-returns-3 c =
-    let s = c .before .before in
-    let p = s .before .before in
-    let stands = sym (s .before .all-stand .ensures) ∙ s .if3 .taken in
+returns-4 : tie.Need-returns-4
+returns-4 c =
+    let s = c .before in
+    let p = s .before .before .before .before in
+    let stands = sym (s .before .all-stand .ensures) ∙ s .if4 .taken in
     let a = p .before .before .before .before .args in
     c .lowest-above .ensures
     ∙ sym
@@ -59,10 +64,10 @@ returns-3 c =
     (p .if2 .left)
     stands))
 
-returns-4 : tie.Need-returns-4
-returns-4 c =
-    let a = c .before .before .before .before .before .before .args in
-    sym (ap topOf (root-lacks (a .issued .now) (a .between) (a .limits .now) (a .above) (a .tops .now) (a .path .now) (sym (c .before .all-stand .ensures) ∙ c .if3 .left)))
+returns-5 : tie.Need-returns-5
+returns-5 c =
+    let a = c .before .before .before .before .before .before .before .before .args in
+    sym (ap topOf (root-lacks (a .issued .now) (a .between) (a .limits .now) (a .above) (a .tops .now) (a .path .now) (sym (c .before .all-stand .ensures) ∙ c .if4 .left)))
 
 pub lowest-root-spec : {M : Type 1} → statement M
 lowest-root-spec =
@@ -73,10 +78,11 @@ lowest-root-spec =
     shared-slice-read-last
     cast-last
     returns-2
+    mul-reached
+    element-copy-out-reached
+    returns-3
     all-stand-requires
-    mul-lowest-above
-    element-copy-out-lowest-above
     sub-lowest-above
     lowest-above-requires
-    returns-3
-    returns-4)
+    returns-4
+    returns-5)
