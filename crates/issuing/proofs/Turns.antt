@@ -1,23 +1,26 @@
 -- The turns of the loops: one place more of a test's row (`turn-more`, `turn-kept`), the whole row (`row-whole`), one subject more
--- of the rows (`rows-turn`) and all of them (`rows-whole`), and what the code asks of two places (`bundle-asked`, `root-asked`).
--- Assumes nothing.
+-- of the rows (`rows-turn`) and all of them (`rows-whole`), and what the code asks of two places: nothing more where the verdict is no
+-- (`bundle-unsigned`, `root-unsigned`), and where it is yes, the records that stand there (`bundle-likely`, `root-likely`). Assumes nothing.
 use Prim.Native.Nat.{ℕ, _+_, _<_, _≤_}
-use mathlib.Core.Path.{_≡_, refl, sym, ap, _∙_}
-use mathlib.Core.Bool.{Bool, true, false, cond, _&&_}
+use mathlib.Core.Path.{_≡_, refl, sym, ap, ap₂, _∙_}
+use mathlib.Core.Bool.{Bool, true, false, cond}
 use mathlib.Core.List.{List}
 use native.Mathlib.Omega.{arith}
 use lib.Dec.{leb}
-use lib.ListN.{set, replicate}
-use borrow.Author.Tests.{leb-true}
+use lib.ListN.{getD, set, replicate}
+use borrow.Author.Tests.{leb-true, leb-false}
+use Rattle.record.specs.Fresh.{fresh}
 use Rattle.record.specs.declared.Record.{Record}
 use Rattle.card.specs.Card.{recordOf, sizeOf, rootSigned, bundleSigned}
 use Rattle.card.specs.declared.roots.Roots.{Roots}
 use Rattle.card.specs.declared.bundle.Bundle.{Bundle}
 use Rattle.card.specs.declared.verdicts.Verdicts.{Verdicts}
+use Rattle.card.proofs.Records.{record-there}
 use Rattle.rows.specs.Rows.{rowOf, joined, listing}
 use Rattle.rows.proofs.Places.{row-none, row-more, row-kept}
 use Rattle.rows.proofs.Listing.{listing-none, listing-next}
 use Rattle.issuing.specs.Records.{likelyIssuedAt, bundleIssuedAt, rootIssuedAt}
+use Rattle.issuing.proofs.Fits.{after-signed, after-unsigned}
 
 size-few : (most count : ℕ) → sizeOf most count ≤ most
 unfolding sizeOf
@@ -26,6 +29,17 @@ size-few most count = by-test (leb count most) refl
     by-test : (b : Bool) → leb count most ≡ b → cond b count most ≤ most
     by-test true h = leb-true count most h
     by-test false h = omega arith
+
+pub size-room : (most count n : ℕ) → n ≡ sizeOf most count → n ≤ most
+size-room most count n e = omega (arith, e, size-few most count)
+
+size-counted : (most count : ℕ) → sizeOf most count ≤ count
+unfolding sizeOf
+size-counted most count = by-test (leb count most) refl
+  where
+    by-test : (b : Bool) → leb count most ≡ b → cond b count most ≤ count
+    by-test true h = omega arith
+    by-test false h = omega (arith, leb-false count most h)
 
 -- ---- a row
 
@@ -58,7 +72,7 @@ pub record RowsTo (f : ℕ → ℕ) (n : ℕ) (rows : List ℕ) (j : ℕ) : Type
 
 module _ (f : ℕ → ℕ) (n : ℕ) where
   pub rows-start : (count : ℕ) → n ≡ sizeOf 16 count → RowsTo f n (replicate 16 0) 0
-  rows-start count e = record { within = omega arith; few = omega (arith, e, size-few 16 count); are = sym (listing-none f 16) }
+  rows-start count e = record { within = omega arith; few = size-room 16 count n e; are = sym (listing-none f 16) }
 
   pub rows-turn : (rows : List ℕ) (j row : ℕ) → RowsTo f n rows j → j < n → row ≡ f j → RowsTo f n (set rows j row) (j + 1)
   rows-turn rows j row t h e =
@@ -73,21 +87,33 @@ module _ (f : ℕ → ℕ) (n : ℕ) where
 
 -- ---- two places
 
-pub bundle-asked : (s : List ℕ) (b : Bundle) (v : Verdicts) (i j : ℕ) (issuer subject : Record) (r : Bool)
-    → r ≡ (bundleSigned v s i j && likelyIssuedAt s issuer subject)
-    → issuer ≡ recordOf (b .count) (b .records) i → subject ≡ recordOf (b .count) (b .records) j
-    → r ≡ bundleIssuedAt s b v i j
-unfolding bundleIssuedAt
-bundle-asked s b v i j issuer subject r h p q = h ∙ rw (p, q)
+-- a place below the size has its record in the array
+record-at : (most count : ℕ) (records : List Record) (n i : ℕ) → n ≡ sizeOf most count → i < n → getD records i fresh ≡ recordOf count records i
+record-at most count records n i e h = record-there count records i (omega (arith, e, size-counted most count))
 
-pub root-asked : (s : List ℕ) (roots : Roots) (v : Verdicts) (subject : Record) (i j : ℕ) (issuer : Record) (r : Bool)
-    → r ≡ (rootSigned v s i j && likelyIssuedAt s issuer subject) → issuer ≡ recordOf (roots .count) (roots .records) i
-    → r ≡ rootIssuedAt s roots v subject i j
-unfolding rootIssuedAt
-root-asked s roots v subject i j issuer r h p = h ∙ rw p
+module _ (s : List ℕ) (b : Bundle) (v : Verdicts) (i j : ℕ) (signed : Bool) (asked : signed ≡ bundleSigned v s i j) where
+  pub bundle-likely : (n : ℕ) → n ≡ sizeOf 16 (b .count) → i < n → j < n → (r : Bool) → signed ≡ true
+      → r ≡ likelyIssuedAt s (getD (b .records) i fresh) (getD (b .records) j fresh) → r ≡ bundleIssuedAt s b v i j
+  unfolding bundleIssuedAt
+  bundle-likely n e h k r p l =
+      after-signed (bundleSigned v s i j) _ r
+      (l ∙ ap₂ (likelyIssuedAt s) (record-at 16 (b .count) (b .records) n i e h) (record-at 16 (b .count) (b .records) n j e k))
+      (sym asked ∙ p)
 
--- the subject at hand is the one at its place
-pub root-row-of : (s : List ℕ) (roots : Roots) (v : Verdicts) (n j : ℕ) (subject of : Record) (row : ℕ)
-    → row ≡ rowOf (λ i. rootIssuedAt s roots v subject i j) n → subject ≡ of
-    → row ≡ rowOf (λ i. rootIssuedAt s roots v of i j) n
-root-row-of s roots v n j subject of row h e = h ∙ ap (λ (r : Record). rowOf (λ i. rootIssuedAt s roots v r i j) n) e
+  pub bundle-unsigned : signed ≡ false → signed ≡ bundleIssuedAt s b v i j
+  unfolding bundleIssuedAt
+  bundle-unsigned p = p ∙ after-unsigned (bundleSigned v s i j) _ (sym asked ∙ p)
+
+module _ (s : List ℕ) (roots : Roots) (b : Bundle) (v : Verdicts) (i j : ℕ) (signed : Bool) (asked : signed ≡ rootSigned v s i j) where
+  pub root-likely : (m n : ℕ) → m ≡ sizeOf 32 (roots .count) → n ≡ sizeOf 16 (b .count) → i < m → j < n → (r : Bool) → signed ≡ true
+      → r ≡ likelyIssuedAt s (getD (roots .records) i fresh) (getD (b .records) j fresh)
+      → r ≡ rootIssuedAt s roots v (recordOf (b .count) (b .records) j) i j
+  unfolding rootIssuedAt
+  root-likely m n d e h k r p l =
+      after-signed (rootSigned v s i j) _ r
+      (l ∙ ap₂ (likelyIssuedAt s) (record-at 32 (roots .count) (roots .records) m i d h) (record-at 16 (b .count) (b .records) n j e k))
+      (sym asked ∙ p)
+
+  pub root-unsigned : signed ≡ false → signed ≡ rootIssuedAt s roots v (recordOf (b .count) (b .records) j) i j
+  unfolding rootIssuedAt
+  root-unsigned p = p ∙ after-unsigned (rootSigned v s i j) _ (sym asked ∙ p)

@@ -1,4 +1,5 @@
 pub mod Attributes
+pub mod Compared
 pub mod Frauds
 pub mod Pinned
 pub mod Upstream

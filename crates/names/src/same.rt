@@ -140,7 +140,7 @@ pub fn attr_walk(s: &[u8], at: usize, t: &[u8], bt: usize, normalise: bool) -> W
     }
 }
 
-// Whether two attributes that were read are the same.
+// Whether two attributes that were read are the same. Equal values are not normalised, since their normal forms are equal too.
 fn same_attribute(s: &[u8], a: Attribute, t: &[u8], b: Attribute, normalise: bool) -> bool
     requires { ⌜ Short a (now s) × Short b (now t) ⌝ }
     ensures { λ r. ⌜ r ≡ sameAttr normalise (attrOf a (now (s .entry))) (attrOf b (now (t .entry))) ⌝ }
@@ -148,10 +148,15 @@ fn same_attribute(s: &[u8], a: Attribute, t: &[u8], b: Attribute, normalise: boo
     if !equal(part(s, a.oid), part(t, b.oid)) {
         return false;
     }
-    if normalise {
-        return same_normal(part(s, a.value), part(t, b.value));
+    let x = part(s, a.value);
+    let y = part(t, b.value);
+    if equal(x, y) {
+        return true;
     }
-    equal(part(s, a.value), part(t, b.value))
+    if normalise {
+        return same_normal(x, y);
+    }
+    false
 }
 
 // Whether two values have the same normal form: each is at most an attribute value's longest.

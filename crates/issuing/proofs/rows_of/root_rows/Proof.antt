@@ -1,34 +1,90 @@
--- `root_rows` puts a row for each subject. The invariant: the rows of the subjects below j, and zeros past them. Assumes nothing.
+-- `root_rows` runs through all pairs, subject by subject. The invariant: the rows of the subjects below j, zeros past them, and of the
+-- subject j the row of the roots below the one at hand. The measure counts a subject as more than all its pairs. Assumes nothing.
 use borrow.Author.Needs.{needs}
 use native.Mathlib.Omega.{arith}
-use Prim.Native.Nat.{_-_}
-use Rattle.card.specs.Card.{sizeOf, recordOf}
+use Prim.Native.Nat.{_+_, _-_, _*_}
+use mathlib.Core.Logic.{⊎-elim}
+use mathlib.Core.Path.{_∙_}
+use Rattle.card.specs.Card.{recordOf, sizeOf}
 use Rattle.rows.specs.Rows.{rowOf}
 use Rattle.issuing.specs.Records.{rootIssuedAt, rootRows}
-use Rattle.issuing.proofs.Turns.{RowsTo, rows-start, rows-turn, rows-whole, root-row-of}
+use Rattle.issuing.proofs.Turns.{RowTo, RowsTo, size-room, row-starts, turn-more, turn-kept, row-whole, rows-start, rows-turn, rows-whole, root-likely, root-unsigned}
 use Rattle.issuing.proofs.rows_of.root_rows.Statement.{statement}
 use Rattle.issuing.proofs.rows_of.root_rows.Tie as tie
 
 abbrev Inv-loop : tie.InvT-loop
-Inv-loop file roots bundle verdicts n rows₀ j₀ rows j =
-    RowsTo
-    (λ k. rowOf (λ i. rootIssuedAt file roots verdicts (recordOf (bundle .count) (bundle .records) k) i k) (sizeOf 32 (roots .count)))
-    n rows j
+Inv-loop file verdicts roots bundle m n rows₀ row₀ root₀ j₀ rows row root j =
+    RowsTo (λ k. rowOf (λ i. rootIssuedAt file roots verdicts (recordOf (bundle .count) (bundle .records) k) i k) (sizeOf 32 (roots .count))) n rows j
+    × RowTo (λ i. rootIssuedAt file roots verdicts (recordOf (bundle .count) (bundle .records) j) i j) m row root
 
 abbrev μ-loop : tie.MeasureT-loop
-μ-loop file roots bundle verdicts n rows₀ j₀ rows j = n - j
+μ-loop file verdicts roots bundle m n rows₀ row₀ root₀ j₀ rows row root j = 33 * (n - j) + (m - root)
 
 size-requires : tie.Need-size-requires Inv-loop μ-loop
 size-requires c κs = search needs
 
+size-requires-2 : tie.Need-size-requires-2 Inv-loop μ-loop
+size-requires-2 c κs = search needs
+
 loop-holds : tie.Need-loop-holds Inv-loop μ-loop
-loop-holds c = rows-start _ _ _ (c .size .ensures)
+loop-holds c = (rows-start _ _ _ (c .size2 .ensures), row-starts _ _)
 
-record-requires : tie.Need-record-requires Inv-loop μ-loop
-record-requires c κs = search needs
+root-signed-requires : tie.Need-root-signed-requires Inv-loop μ-loop
+root-signed-requires c κs = search needs
 
-root-row-requires : tie.Need-root-row-requires Inv-loop μ-loop
-root-row-requires c κs = search needs
+cast-likely-issued : tie.Need-cast-likely-issued Inv-loop μ-loop
+cast-likely-issued c = search needs
+
+mul-likely-issued : tie.Need-mul-likely-issued Inv-loop μ-loop
+mul-likely-issued c = search needs
+
+element-copy-out-likely-issued : tie.Need-element-copy-out-likely-issued Inv-loop μ-loop
+element-copy-out-likely-issued c =
+    let i = c .before .before .if1 .taken in
+    let few = size-room _ _ _ (c .before .before .before .before .before .before .size .ensures) in
+    omega arith
+
+cast-likely-issued-2 : tie.Need-cast-likely-issued-2 Inv-loop μ-loop
+cast-likely-issued-2 c = search needs
+
+mul-likely-issued-2 : tie.Need-mul-likely-issued-2 Inv-loop μ-loop
+mul-likely-issued-2 c = search needs
+
+element-copy-out-likely-issued-2 : tie.Need-element-copy-out-likely-issued-2 Inv-loop μ-loop
+element-copy-out-likely-issued-2 c =
+    let j = c .before .before .before .before .loop-test .taken in
+    let few = c .before .before .before .before .before .loop .inv .0 .few in
+    omega arith
+
+likely-issued-requires : tie.Need-likely-issued-requires Inv-loop μ-loop
+likely-issued-requires c κs = search needs
+
+with-requires : tie.Need-with-requires Inv-loop μ-loop
+with-requires c κs = search needs
+
+add-root : tie.Need-add-root Inv-loop μ-loop
+add-root c = search needs
+
+loop-less : tie.Need-loop-less Inv-loop μ-loop
+loop-less c = let i = c .before .before .if1 .taken in omega arith
+
+loop-again : tie.Need-loop-again Inv-loop μ-loop
+loop-again c =
+    let s = c .before in
+    let t = s .before in
+    let q = t .before in
+    let l = q .before in
+    let inv = l .loop .inv in
+    let bundle = l .before .size2 .ensures in
+    let roots = l .before .before .size .ensures in
+    let likely = root-likely _ _ _ _ _ _ _ (s .root-signed .ensures) _ _ roots bundle (t .if1 .taken) (q .loop-test .taken) in (
+      inv .0,
+      ⊎-elim
+          (λ w. turn-more _ _ _ _ _ _ (inv .1) (t .if1 .taken) (likely _ (w .0 .taken) (w .3 .ensures)) (w .4 .taken) (w .6 ∙ w .5 .ensures))
+          (⊎-elim (λ w. turn-kept _ _ _ _ _ _ (inv .1) (t .if1 .taken) (likely _ (w .0 .taken) (w .3 .ensures)) (w .4 .left) (w .5))
+          (λ w. turn-kept _ _ _ _ _ _ (inv .1) (t .if1 .taken) (root-unsigned _ _ _ _ _ _ _ (s .root-signed .ensures) (w .0 .left)) (w .0 .left) (w .1)))
+          (c .if2 .came),
+    )
 
 cast-rows : tie.Need-cast-rows Inv-loop μ-loop
 cast-rows c = search needs
@@ -37,22 +93,31 @@ mul-rows : tie.Need-mul-rows Inv-loop μ-loop
 mul-rows c = search needs
 
 array-write-rows : tie.Need-array-write-rows Inv-loop μ-loop
-array-write-rows c = let i = c .before .before .before .loop .inv .few in omega arith
+array-write-rows c =
+    let j = c .before .loop-test .taken in
+    let few = c .before .before .loop .inv .0 .few in
+    omega arith
 
 add-j : tie.Need-add-j Inv-loop μ-loop
 add-j c = search needs
 
-loop-less : tie.Need-loop-less Inv-loop μ-loop
-loop-less c = search needs
+loop-less-2 : tie.Need-loop-less-2 Inv-loop μ-loop
+loop-less-2 c =
+    let i = c .if1 .left in
+    let j = c .before .loop-test .taken in
+    let few = size-room _ _ _ (c .before .before .before .before .size .ensures) in
+    omega arith
 
-loop-again : tie.Need-loop-again Inv-loop μ-loop
-loop-again c =
-    rows-turn _ _ _ _ _ (c .before .before .before .loop .inv) (c .before .before .loop-test .taken)
-    (root-row-of _ _ _ _ _ _ _ _ (c .root-row .ensures) (c .before .record .ensures))
+loop-again-2 : tie.Need-loop-again-2 Inv-loop μ-loop
+loop-again-2 c =
+    let q = c .before in
+    let l = q .before in
+    let inv = l .loop .inv in
+    (rows-turn _ _ _ _ _ (inv .0) (q .loop-test .taken) (row-whole _ _ _ _ _ (inv .1) (c .if1 .left) (l .before .before .size .ensures)), row-starts _ _)
 
 returns : tie.Need-returns Inv-loop μ-loop
 unfolding rootRows
-returns c = rows-whole _ _ _ _ _ (c .before .loop .inv) (c .loop-test .left) (c .before .before .size .ensures)
+returns c = rows-whole _ _ _ _ _ (c .before .loop .inv .0) (c .loop-test .left) (c .before .before .size2 .ensures)
 
 pub root-rows-spec : {M : Type 1} → statement M
 root-rows-spec =
@@ -61,13 +126,24 @@ root-rows-spec =
     Inv-loop
     μ-loop
     size-requires
+    size-requires-2
     loop-holds
-    record-requires
-    root-row-requires
+    root-signed-requires
+    cast-likely-issued
+    mul-likely-issued
+    element-copy-out-likely-issued
+    cast-likely-issued-2
+    mul-likely-issued-2
+    element-copy-out-likely-issued-2
+    likely-issued-requires
+    with-requires
+    add-root
+    loop-less
+    loop-again
     cast-rows
     mul-rows
     array-write-rows
     add-j
-    loop-less
-    loop-again
+    loop-less-2
+    loop-again-2
     returns)
