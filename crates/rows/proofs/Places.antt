@@ -3,7 +3,8 @@
 -- The row of a test: `has-row`; `row-below` and `row-fits` for its size; `row-none`, `row-next`, `row-more`, `row-kept` for a loop; `row-same`.
 -- The first that passes a test: `seek-least` says in words what it is, `seek-is` that nothing else is that; `seek-same`.
 -- The lowest place: `lowest-least`, `lowest-seeks`; of a test's row, from the test (`lowest-row`) and from the lowest place
--- (`seek-lowest`, `seek-end`). What the code's words say of a row is in Words. Assumes nothing.
+-- (`seek-lowest`, `seek-end`). A row without its lowest place: `dropped-above`, `dropped-below`, `dropped-later`.
+-- What the code's words say of a row is in Words. Assumes nothing.
 use Prim.Native.Nat.{ℕ, zero, suc, _+_, _/_, _%_, _^_, _≤_, _<_}
 use mathlib.Core.Bool.{Bool, true, false, cond, not, _&&_, _||_, false≢true}
 use mathlib.Core.Logic.{⊎-elim}
@@ -11,7 +12,7 @@ use mathlib.Core.Path.{_≡_, refl, sym, ap, _∙_}
 use native.Mathlib.Nat.{pow-zero, pow-suc, div-one, div-eq-of-lt, mul-div-mul-right, mul-mod-left, mod-lt, zero-div, eq-or-lt-of-le}
 use native.Mathlib.Numerals.{add-one}
 use native.Mathlib.Omega.{arith}
-use borrow.Author.Tests.{ltb-true, ltb-false, eqb-true, lt-ltb, le-ltb, eq-eqb}
+use borrow.Author.Tests.{ltb-true, ltb-false, eqb-true, lt-ltb, le-ltb, eq-eqb, ne-eqb}
 use lib.Bits.{bitOr, bitAnd, bitXor, or-shr, or-mod, or-lt, xor-shr, xor-mod, and-shr, and-mod}
 use lib.Dec.{eqb, ltb, lit<, eqb·zero-suc, eqb·suc-zero, eqb·suc-suc}
 use lib.Pow.{pow-lt}
@@ -250,6 +251,30 @@ lowest-least row = seek-least (λ i. has i row) 0 64
 pub lowest-seeks : (test : ℕ → Bool) (row : ℕ) → ((i : ℕ) → i < 64 → has i row ≡ test i) → lowest row ≡ seek test 0 64
 unfolding lowest
 lowest-seeks test row h = seek-same (λ i. has i row) test 0 64 (λ i k m. h i (omega arith))
+
+-- a row without its lowest place, for a loop that takes the places one by one
+module _ (row : ℕ) (some : lowest row < 64) where
+  has-dropped : (j : ℕ) → has j (left row (joined 0 (lowest row))) ≡ has j row && not (eqb j (lowest row))
+  has-dropped j = has-left j row (joined 0 (lowest row)) ∙ rw (has-joined j 0 (lowest row), has-none j, lt-ltb (lowest row) 64 some)
+
+  pub dropped-above : (j : ℕ) → lowest row < j → has j (left row (joined 0 (lowest row))) ≡ has j row
+  dropped-above j h = has-dropped j ∙ rw (ne-eqb j (lowest row) (λ k. omega arith)) (and-yes (has j row))
+    where
+      and-yes : (t : Bool) → t && true ≡ t
+      and-yes true = refl
+      and-yes false = refl
+
+  pub dropped-below : (j : ℕ) → j ≤ lowest row → has j (left row (joined 0 (lowest row))) ≡ false
+  dropped-below j h = has-dropped j ∙ ⊎-elim
+      (λ e. rw (eq-eqb j (lowest row) e) (and-no (has j row)))
+      (λ l. rw (lowest-least row .below j (omega arith) l))
+      (eq-or-lt-of-le h)
+
+  pub dropped-later : lowest row < lowest (left row (joined 0 (lowest row)))
+  dropped-later =
+      let next : ℕ = left row (joined 0 (lowest row)) in
+      let k : ¬ (lowest next ≤ lowest row) = λ k. false≢true (sym (dropped-below (lowest next) k) ∙ lowest-least next .passes (omega arith)) in
+      omega arith
 
 module _ (test : ℕ → Bool) (n : ℕ) (room : n ≤ 64) where
   -- some place passes

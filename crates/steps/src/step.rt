@@ -6,7 +6,7 @@ use card::Bundle;
 use card::Roots;
 use policy::Top;
 use policy::lowest_root;
-use rows::has;
+use rows::lowest;
 use rows::with;
 use rows::without;
 ghost use mathlib.Core.List.{_++_};
@@ -72,15 +72,14 @@ pub(crate) fn expand(
     ensures { λ r. ⌜ r ≡ m + length (grown (issuers (now (rows .entry))) (pathOf s) n) ⌝ }
     ensures { λ r. ⌜ now (room .exit) ≡ take (17 * m) (now (room .entry)) ++ (flat (grown (issuers (now (rows .entry))) (pathOf s) n) ++ drop (17 * r) (now (room .entry))) ⌝ }
 {
-    let next = next_places(s, rows);
+    let mut next = next_places(s, rows);
+    let mut i = lowest(next);
     let mut top = m;
-    let mut i: u8 = 0;
     while i < n {
-        if has(next, i) {
-            put_child(room, top, s, i);
-            top += 1;
-        }
-        i += 1;
+        put_child(room, top, s, i);
+        top += 1;
+        next = without(next, with(0, i));
+        i = lowest(next);
     }
     top
 }

@@ -1,105 +1,86 @@
--- `expand` meets its contract. After i turns the children by places below i lie above slot m. Assumes nothing.
-use mathlib.Core.Path.{_≡_, refl, ap, _∙_, sym}
-use mathlib.Core.Logic.{⊎-elim}
-use mathlib.Core.Bool.{true}
-use mathlib.Core.List.{List, [], _∷_, _++_}
-use Prim.Native.Nat.{ℕ, _+_, _*_, _-_, _≤_, _<_}
+-- `expand` meets its contract. The loop's invariant is `Laying`, and i is the lowest place that is left. Assumes nothing.
+use mathlib.Core.Path.{_≡_, refl, ap, _∙_}
+use Prim.Native.Nat.{_+_, _*_, _-_, _≤_}
+use borrow.Author.Needs.{needs}
 use native.Mathlib.Omega.{arith}
-use lib.Seq.{paste}
-use lib.ListN.{length, take-append-drop}
-use Rattle.steps.specs.Slots.{slotOf, flat, pathOf}
+use lib.ListN.{length}
+use Rattle.rows.specs.Rows.{joined, left}
+use Rattle.steps.specs.Slots.{pathOf}
 use Rattle.steps.specs.Answer.{issuers, placesBy}
-use Rattle.steps.specs.Parts.{goes, grown}
-use Rattle.steps.proofs.Grow.{child-short, child-below, child-top, child-room, grown-no}
-use Rattle.steps.proofs.Stack.{slot-len, laidOut, simple-slot, slot-next}
+use Rattle.steps.proofs.Grow.{Laying, Child, laying-start, laying-end, child}
+use Rattle.steps.proofs.Stack.{slot-len, simple-slot, slot-next}
 use Rattle.steps.proofs.step.expand.Statement.{statement}
 use Rattle.steps.proofs.step.expand.Tie as tie
 
 abbrev Inv-loop : tie.InvT-loop
-Inv-loop room₀ m s n rows need next top₀ i₀ room top i =
-    (i ≤ n) × ((top ≡ m + length (grown (issuers rows) (pathOf s) i)) × ((room ≡ laidOut room₀ m (flat (grown (issuers rows) (pathOf s) i)) top) × (length room ≡ length room₀)))
+Inv-loop room₀ m s n rows need next₀ i₀ top₀ room next i top =
+    Laying (issuers rows) (pathOf s) n m room₀ room next i top × (length room ≡ length room₀)
 
 abbrev μ-loop : tie.MeasureT-loop
-μ-loop room₀ m s n rows need next top₀ i₀ room top i = n - i
+μ-loop room₀ m s n rows need next₀ i₀ top₀ room next i top = n - i
 
 next-places-requires : tie.Need-next-places-requires Inv-loop μ-loop
 next-places-requires c κs = rw (c .before .pre .0 .1 .0) (simple-slot (placesBy (c .before .args .rows .now) (c .before .args .n)) (c .before .pre .0 .0) (c .before .pre .0 .1 .1))
 
+lowest-requires : tie.Need-lowest-requires Inv-loop μ-loop
+lowest-requires c κs = search needs
+
 loop-holds : tie.Need-loop-holds Inv-loop μ-loop
-unfolding grown flat
-loop-holds c = (omega arith, (omega arith, (sym (take-append-drop (17 * c .before .before .args .m) (c .before .before .args .room .now)), refl)))
+loop-holds c =
+    let a = c .before .before .before .args in
+    (laying-start (issuers (a .rows .now)) (pathOf (a .s)) (a .n) (a .m) (a .room .now) (c .before .next-places .ensures) (c .lowest .ensures), refl)
 
-has-requires : tie.Need-has-requires Inv-loop μ-loop
-has-requires c κs = omega arith
-
--- in the branch: the place is a child's, so there is a slot for it
-yes : (c : tie.Then1 Inv-loop μ-loop) → goes (issuers (c .before .before .before .before .before .before .args .rows .now)) (pathOf (c .before .before .before .before .before .before .args .s)) (c .before .before .before .loop .i) ≡ true
-yes c = sym (c .before .before .before .before .next-places .ensures (c .before .before .before .loop .i)) ∙ sym (c .before .has .ensures) ∙ c .if1 .taken
-
-below : (c : tie.Then1 Inv-loop μ-loop) → c .before .before .before .loop .top < c .before .before .before .before .before .before .args .need
-below c =
-    let s = c .before .before .before .before .before .before in
-    let i = c .before .before .before .loop .i in
-    omega (arith, child-below (placesBy (s .args .rows .now) (s .args .n)) (pathOf (s .args .s)) (s .pre .0 .1 .1) (s .pre .0 .0) (s .args .need) (s .args .m) (s .pre .1 .0) i (omega arith) (yes c))
-
-short : (c : tie.Then1 Inv-loop μ-loop) → length (pathOf (c .before .before .before .before .before .before .args .s)) < 16
-short c =
-    let s = c .before .before .before .before .before .before in
-    let i = c .before .before .before .loop .i in
-    child-short (placesBy (s .args .rows .now) (s .args .n)) (pathOf (s .args .s)) (s .pre .0 .1 .1) (s .pre .0 .0) (s .args .need) (s .args .m) (s .pre .1 .0) i (omega arith) (yes c)
+turn : (c : tie.In-loop Inv-loop μ-loop) → Child (issuers (c .before .before .before .before .before .args .rows .now)) (pathOf (c .before .before .before .before .before .args .s)) (c .before .before .before .before .before .args .n) (c .before .before .before .before .before .args .m) (c .before .before .before .before .before .args .need) (c .before .before .before .before .before .args .room .now) (c .before .loop .room) (c .before .loop .next) (c .before .loop .i) (c .before .loop .top)
+turn c =
+    let s = c .before .before .before .before .before in
+    child (placesBy (s .args .rows .now) (s .args .n)) (pathOf (s .args .s)) (s .pre .0 .1 .1) (s .pre .0 .0) (s .args .need) (s .args .m) (s .pre .1 .0) (s .pre .1 .1) (c .before .loop .inv .0) (c .loop-test .taken)
 
 put-child-requires : tie.Need-put-child-requires Inv-loop μ-loop
 put-child-requires c κs =
-    let s = c .before .before .before .before .before .before .before in
-    let l = c .before .before .before .before .loop in
-    let g : 17 * l .top + 17 ≤ length (l .room) = omega (arith, below (c .before), l .inv, s .pre) in
-    (g, omega (arith, slot-len (s .args .s) (s .pre .0 .1 .0), short (c .before)))
+    let s = c .before .before .before .before .before .before in
+    let l = c .before .before .loop in
+    let g : 17 * l .top + 17 ≤ length (l .room) = omega (arith, turn (c .before) .below, l .inv .1, s .pre .1 .1) in
+    (g, omega (arith, slot-len (s .args .s) (s .pre .0 .1 .0), turn (c .before) .short))
 
 add-top : tie.Need-add-top Inv-loop μ-loop
 add-top c =
     let t = c .before .before .before .before in
-    omega (arith, below t, t .before .before .before .before .before .before .fits .need)
+    omega (arith, turn t .below, t .before .before .before .before .before .fits .need)
 
-add-i : tie.Need-add-i Inv-loop μ-loop
-add-i c = omega arith
+with-requires : tie.Need-with-requires Inv-loop μ-loop
+with-requires c κs = search needs
+
+without-requires : tie.Need-without-requires Inv-loop μ-loop
+without-requires c κs = search needs
+
+lowest-requires-2 : tie.Need-lowest-requires-2 Inv-loop μ-loop
+lowest-requires-2 c κs = search needs
+
+-- the row without its lowest place
+next : (c : tie.After-without Inv-loop μ-loop) → c .without .result ≡ left (c .before .before .before .before .before .before .before .loop .next) (joined 0 (c .before .before .before .before .before .before .before .loop .i))
+next c = c .without .ensures ∙ ap (left (c .before .before .before .before .before .before .before .loop .next)) (c .before .with .ensures)
 
 loop-less : tie.Need-loop-less Inv-loop μ-loop
-loop-less c = omega arith
+loop-less c =
+    let t = c .before .before .before .before .before .before .before in
+    omega (arith, t .loop-test .taken, turn t .later (next (c .before)) (c .lowest2 .ensures))
 
 loop-again : tie.Need-loop-again Inv-loop μ-loop
 loop-again c =
-    let l = c .before .before .before .loop in
-    let s = c .before .before .before .before .before .before in
-    let a = s .args in
-    ⊎-elim
-    (λ w.
-    let t : tie.Then1 Inv-loop μ-loop = record { before = c .before; if1 = w .0 } in
-    let y = yes t in
-    let r : c .if1 .room ≡ paste (l .room) (17 * l .top) (slotOf (pathOf (a .s) ++ (l .i ∷ []))) 17 =
-    w .5 ∙ w .2 .ensures ∙ ap (λ (k : List ℕ). paste (l .room) (17 * l .top) k 17) (slot-next (a .s) (l .i) (s .pre .0 .1 .0) (short t)) in (
-      omega arith,
-      (
-        w .6 ∙ child-top (placesBy (a .rows .now) (a .n)) (pathOf (a .s)) (s .pre .0 .1 .1) (s .pre .0 .0) (a .need) (a .m) (s .pre .1 .0) (l .i) (omega arith) y (l .top) (l .inv .1 .0),
-        (
-          r ∙ rw (w .6) (child-room (placesBy (a .rows .now) (a .n)) (pathOf (a .s)) (s .pre .0 .1 .1) (s .pre .0 .0) (a .need) (a .m) (s .pre .1 .0) (l .i) (omega arith) y (a .room .now) (l .room) (l .top) (s .pre .1 .1) (l .inv .1 .0) (l .inv .1 .1 .0)),
-          ap length (w .5) ∙ w .2 .kept .0 ∙ l .inv .1 .1 .1,
-        ),
-      ),
-    ))
-    (λ w.
-    let n = sym (c .before .before .before .before .next-places .ensures (l .i)) ∙ sym (c .before .has .ensures) ∙ w .0 .left in
-    let e = grown-no (issuers (a .rows .now)) (pathOf (a .s)) (l .i) n in
-    (omega arith, (w .2 ∙ rw e (l .inv .1 .0), (w .1 ∙ rw (e, w .2) (l .inv .1 .1 .0), ap length (w .1) ∙ l .inv .1 .1 .1))))
-    (c .if1 .came)
+    let t = c .before .before .before .before .before .before .before in
+    let l = t .before .loop in
+    let s = t .before .before .before .before .before in
+    let w = c .before .before .before .before .before .put-child in
+    let k = slot-next (s .args .s) (l .i) (s .pre .0 .1 .0) (turn t .short) in
+    (turn t .laid (next (c .before)) (c .lowest2 .ensures) (rw k at (w .ensures)), w .kept .0 ∙ l .inv .1)
 
 same-length : tie.Need-same-length Inv-loop μ-loop
-same-length c = c .before .loop .inv .1 .1 .1
+same-length c = c .before .loop .inv .1
 
 returns : tie.Need-returns Inv-loop μ-loop
 returns c =
-    let l = c .before .loop in
-    let e : l .i ≡ c .before .before .before .before .args .n = omega arith in
-    (rw (← e) (l .inv .1 .0), rw (← e) (l .inv .1 .1 .0))
+    let a = c .before .before .before .before .before .args in
+    laying-end (issuers (a .rows .now)) (pathOf (a .s)) (c .before .loop .inv .0) (omega arith)
 
 pub expand-spec : {M : Type 1} → statement M
 expand-spec =
@@ -108,11 +89,13 @@ expand-spec =
     Inv-loop
     μ-loop
     next-places-requires
+    lowest-requires
     loop-holds
-    has-requires
     put-child-requires
     add-top
-    add-i
+    with-requires
+    without-requires
+    lowest-requires-2
     loop-less
     loop-again
     same-length
