@@ -2,7 +2,7 @@
 -- from r on. Assumes nothing.
 use borrow.Author.Needs.{needs}
 use native.Mathlib.Omega.{arith}
-use Prim.Native.Nat.{_-_, _≤_}
+use Prim.Native.Nat.{_+_, _-_, _≤_}
 use mathlib.Core.Logic.{⊎-elim}
 use borrow.Author.Tests.{lt-ltb}
 use mathlib.Core.Path.{_≡_, sym, ap, _∙_}
@@ -56,12 +56,13 @@ loop-less c = search needs
 loop-again : tie.Need-loop-again Inv-loop μ-loop
 loop-again c =
     let t = c .before .before in
-    let k = t .loop-test .taken in (
+    let k = t .loop-test .taken in
+    let a = t .before .before .args in (
       omega arith,
-      t .before .loop .inv .1
-          ∙ ⊎-elim (λ w. far _ _ _ _ _ k (w .4 .left))
+      _∙_ {c = lowestFrom (a .issued) (a .above) (a .limits .now) (a .n) (t .before .loop .r + 1)} (t .before .loop .inv .1)
+          (⊎-elim (λ w. far _ _ _ _ _ k (w .4 .left))
           (⊎-elim (λ w. unsound _ _ _ _ _ k (sym (w .1 .ensures) ∙ w .2 .left)) (λ w. unissued _ _ _ _ _ k (sym (c .before .has .ensures) ∙ w .left)))
-          (c .if1 .came),
+          (c .if1 .came)),
     )
 
 returns-2 : tie.Need-returns-2 Inv-loop μ-loop
