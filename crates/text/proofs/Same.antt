@@ -1,11 +1,12 @@
 -- The laws of byte strings compared, as the loops and returns of `src/bytes.rt` need them, and what `&l[k..]` reads.
 -- Assumes nothing.
 use Prim.Native.Nat.{ℕ, _+_, _-_, _<_, _≤_}
-use mathlib.Core.Path.{_≡_, refl}
-use mathlib.Core.Bool.{Bool, true, false}
+use mathlib.Core.Path.{_≡_, refl, sym, _∙_}
+use mathlib.Core.Bool.{Bool, true, false, _&&_, and-true, and-assoc}
 use mathlib.Core.List.{List}
 use native.Mathlib.Numerals.{add-one}
 use native.Mathlib.Omega.{arith}
+use lib.Dec.{eqb}
 use lib.ListN.{length, getD, take, drop, length-drop, drop-of-length-le}
 use lib.Seq.{drop-cons, take-all}
 use borrow.Author.Tests.{eq-eqb, ne-eqb, le-leb, lt-leb}
@@ -19,18 +20,26 @@ differ a b n = go (same a b) refl where
   go true e = absurd (n (same-sound a b e))
   go false e = refl
 
-module _ (a b : List ℕ) (i : ℕ) (long : length a ≡ length b) where
-  pub same-next : i < length a → getD a i 0 ≡ getD b i 0 → same (drop i a) (drop i b) ≡ same (drop (i + 1) a) (drop (i + 1) b)
-  unfolding same
-  same-next p e =
-      let q : i < length b = omega arith in
-      rw (add-one, drop-cons a i 0, drop-cons b i 0, eq-eqb _ _ e)
+-- two strings of one length, and whether their first i bytes are the same
+pub record AlikeTo (a b : List ℕ) (alike : Bool) (i : ℕ) : Type 0 where
+  pub long : length a ≡ length b
+  pub is : same a b ≡ (alike && same (drop i a) (drop i b))
 
-  pub same-end : length a ≤ i → same (drop i a) (drop i b) ≡ true
+module _ (a b : List ℕ) where
+  pub alike-starts : length a ≡ length b → AlikeTo a b true 0
+  alike-starts long = record { long = long; is = refl }
+
+  pub alike-next : (alike : Bool) (i : ℕ) → AlikeTo a b alike i → i < length a → AlikeTo a b (alike && eqb (getD a i 0) (getD b i 0)) (i + 1)
   unfolding same
-  same-end p =
-      let q : length b ≤ i = omega arith in
-      rw (drop-of-length-le a p, drop-of-length-le b q)
+  alike-next alike i t p =
+      let q : i < length b = omega (arith, t .long) in
+      record { long = t .long; is = t .is ∙ rw (add-one, drop-cons a i 0, drop-cons b i 0) (sym (and-assoc alike _ _)) }
+
+  pub alike-ends : (alike : Bool) (i : ℕ) → AlikeTo a b alike i → length a ≤ i → alike ≡ same a b
+  unfolding same
+  alike-ends alike i t p =
+      let q : length b ≤ i = omega (arith, t .long) in
+      sym (t .is ∙ rw (drop-of-length-le a p, drop-of-length-le b q) (and-true alike))
 
 -- ---- `hasByte`
 

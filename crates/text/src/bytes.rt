@@ -15,21 +15,20 @@ pub fn lower(b: u8) -> u8
     b + 32
 }
 
-// Whether a and b hold the same bytes.
+// Whether a and b hold the same bytes. The loop does not stop at a difference, so that the compiler can compare many bytes at once.
 pub fn equal(a: &[u8], b: &[u8]) -> bool
     ensures { λ r. ⌜ r ≡ same (now (a .entry)) (now (b .entry)) ⌝ }
 {
     if a.len() != b.len() {
         return false;
     }
+    let mut alike = true;
     let mut i: usize = 0;
     while i < a.len() {
-        if a[i] != b[i] {
-            return false;
-        }
+        alike = alike & (a[i] == b[i]);
         i += 1;
     }
-    true
+    alike
 }
 
 // Whether the byte b stands in s.
