@@ -10,10 +10,11 @@ use lib.Dec.{leb}
 use lib.ListN.{set, replicate}
 use borrow.Author.Tests.{leb-true}
 use Rattle.record.specs.declared.Record.{Record}
-use Rattle.card.specs.Card.{recordOf, sizeOf, rootSigned, bundleSigned}
-use Rattle.card.specs.declared.roots.Roots.{Roots}
-use Rattle.card.specs.declared.bundle.Bundle.{Bundle}
-use Rattle.card.specs.declared.verdicts.Verdicts.{Verdicts}
+use Rattle.certificates.specs.Certificates.{recordOf, sizeOf}
+use Rattle.certificates.specs.declared.roots.Roots.{Roots}
+use Rattle.certificates.specs.declared.bundle.Bundle.{Bundle}
+use Rattle.verdicts.specs.Verdicts.{rootSigned, bundleSigned}
+use Rattle.verdicts.specs.declared.Verdicts.{Verdicts}
 use Rattle.rows.specs.Rows.{rowOf, joined, listing}
 use Rattle.rows.proofs.Places.{row-none, row-more, row-kept}
 use Rattle.rows.proofs.Listing.{listing-none, listing-next}

@@ -9,7 +9,8 @@ use record::Record;
 use rows::with;
 ghost use mathlib.Core.Path.{_≡_};
 ghost use mathlib.Core.Bool.{_&&_};
-ghost use Rattle.card.specs.Card.{sizeOf, rootSigned, bundleSigned};
+ghost use Rattle.certificates.specs.Certificates.{sizeOf};
+ghost use Rattle.verdicts.specs.Verdicts.{rootSigned, bundleSigned};
 ghost use Rattle.rows.specs.Rows.{rowOf};
 ghost use Rattle.issuing.specs.Records.{likelyIssuedAt, bundleIssuedAt, rootIssuedAt, bundleRows, rootRows};
 

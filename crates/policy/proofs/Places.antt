@@ -9,7 +9,7 @@ use native.Mathlib.Omega.{arith}
 use borrow.Author.Tests.{leb-true}
 use lib.Dec.{leb}
 use lib.ListN.{set, replicate}
-use Rattle.card.specs.Card.{sizeOf}
+use Rattle.certificates.specs.Certificates.{sizeOf}
 use Rattle.rows.specs.Rows.{rowOf, joined, listing}
 use Rattle.rows.proofs.Places.{row-none, row-more, row-kept}
 use Rattle.rows.proofs.Listing.{listing-none, listing-next}

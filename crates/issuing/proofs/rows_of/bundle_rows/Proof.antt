@@ -2,7 +2,7 @@
 use borrow.Author.Needs.{needs}
 use native.Mathlib.Omega.{arith}
 use Prim.Native.Nat.{_-_}
-use Rattle.card.specs.Card.{sizeOf}
+use Rattle.certificates.specs.Certificates.{sizeOf}
 use Rattle.rows.specs.Rows.{rowOf}
 use Rattle.issuing.specs.Records.{bundleIssuedAt, bundleRows}
 use Rattle.issuing.proofs.Turns.{RowsTo, rows-start, rows-turn, rows-whole}

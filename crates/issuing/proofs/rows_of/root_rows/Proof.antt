@@ -2,7 +2,7 @@
 use borrow.Author.Needs.{needs}
 use native.Mathlib.Omega.{arith}
 use Prim.Native.Nat.{_-_}
-use Rattle.card.specs.Card.{sizeOf, recordOf}
+use Rattle.certificates.specs.Certificates.{sizeOf, recordOf}
 use Rattle.rows.specs.Rows.{rowOf}
 use Rattle.issuing.specs.Records.{rootIssuedAt, rootRows}
 use Rattle.issuing.proofs.Turns.{RowsTo, rows-start, rows-turn, rows-whole, root-row-of}
