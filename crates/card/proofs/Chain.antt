@@ -6,17 +6,19 @@ use mathlib.Core.List.{List}
 use lib.Dec.{leb, ltb}
 use lib.ListN.{length}
 use Rattle.fields.specs.Fields.{Parsed, got, stop, after, whole}
-use Rattle.fields.specs.Answers.{passed, passing}
+use Rattle.fields.specs.Answers.{passed, passing, held}
 use Rattle.fields.specs.declared.Past.{Past}
 use Rattle.fields.specs.declared.Past.the-variants.{Got, Stop}
-use Rattle.card.specs.Card.{editionP, rootsP, bundleP, verdictsP, taskP, cardP, fileP}
-use Rattle.card.specs.Answers.{held}
-use Rattle.card.specs.declared.roots.Roots.{Roots}
-use Rattle.card.specs.declared.bundle.Bundle.{Bundle}
-use Rattle.card.specs.declared.verdicts.Verdicts.{Verdicts}
-use Rattle.card.specs.declared.task.Task.{Task}
+use Rattle.fields.proofs.Held.{as-told}
+use Rattle.certificates.specs.Certificates.{rootsP, bundleP}
+use Rattle.certificates.specs.declared.roots.Roots.{Roots}
+use Rattle.certificates.specs.declared.bundle.Bundle.{Bundle}
+use Rattle.verdicts.specs.Verdicts.{verdictsP}
+use Rattle.verdicts.specs.declared.Verdicts.{Verdicts}
+use Rattle.task.specs.Task.{taskP}
+use Rattle.task.specs.declared.Task.{Task}
+use Rattle.card.specs.Card.{editionP, cardP, fileP}
 use Rattle.card.specs.declared.Card.{Card}
-use Rattle.card.proofs.Held.{as-told}
 
 -- what comes after a section, and after that, sees the value that was held
 module _ {A B C : Type 0} (f : A → ℕ → Parsed B) (g : B → ℕ → Parsed C) where

@@ -1,12 +1,7 @@
 pub mod Chain
-pub mod Columns
 pub mod Frauds
-pub mod Held
 pub mod Nothing
-pub mod Onward
 pub mod Pinned
-pub mod Product
-pub mod Records
 pub mod Sections
 pub mod Signed
 pub mod Standing

@@ -12,7 +12,10 @@ use Rattle.names.specs.Names.{attrP, rdnP, nameP}
 use Rattle.lists.specs.Lists.{usageP, dnsNameP, rowP}
 use Rattle.extensions.specs.Extensions.{flag, optionP, keyIdsP, pathLengthP, extensionsP}
 use Rattle.record.specs.Record.{paired, flagsP, datesP, headP, stringsP, namesP, recordP}
-use Rattle.card.specs.Card.{editionP, rootsP, bundleP, verdictP, verdictsP, timesP, purposeP, taskP, cardP, fileP}
+use Rattle.certificates.specs.Certificates.{rootsP, bundleP}
+use Rattle.verdicts.specs.Verdicts.{verdictP, verdictsP}
+use Rattle.task.specs.Task.{timesP, purposeP, taskP}
+use Rattle.card.specs.Card.{editionP, cardP, fileP}
 use Rattle.card.specs.Answers.{numberOf, told, answer}
 use Rattle.card.specs.declared.Card.{Card}
 use Rattle.card.specs.declared.Outcome.the-variants.{Read}

@@ -9,7 +9,8 @@ use lib.ListN.{length, getD, take}
 use Rattle.fields.specs.Fields.{Parsed, got, after, many, bytesOf}
 use Rattle.record.specs.Certificate.{Certificate, listOf, certificateOf}
 use Rattle.record.specs.declared.Record.{Record}
-use Rattle.card.specs.Card.{verdictP, fileP}
+use Rattle.verdicts.specs.Verdicts.{verdictP}
+use Rattle.card.specs.Card.{fileP}
 use Rattle.card.specs.declared.Card.{Card}
 
 pub record Content : Type 0 where

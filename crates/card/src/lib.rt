@@ -1,21 +1,16 @@
 // The card file: its sections in their order, read once from left to right. A card that was read is numbers and places in the file;
-// nothing is copied out of it. Who issued whom, and what is believed, is left to the crates above.
-mod bundle;
-mod places;
-mod roots;
-mod task;
-mod verdicts;
-
-pub use bundle::Bundle;
-use bundle::bundle_after;
+// nothing is copied out of it. Each section has its own crate below, and its types are handed on here. Who issued whom, and what is
+// believed, is left to the crates above.
+pub use certificates::Bundle;
+pub use certificates::BundlePlace;
+pub use certificates::RootPlace;
+pub use certificates::Roots;
+use certificates::bundle_after;
+use certificates::roots_after;
 use fields::CountAt;
 use fields::Fault;
 use fields::Past;
 use fields::count_at;
-pub use places::BundlePlace;
-pub use places::RootPlace;
-pub use roots::Roots;
-use roots::roots_after;
 pub use task::Host;
 pub use task::Task;
 use task::task_after;
@@ -26,9 +21,9 @@ ghost use mathlib.Core.Bool.{cond};
 ghost use lib.Dec.{leb, ltb};
 ghost use lib.ListN.{length};
 ghost use Rattle.fields.specs.Fields.{got, stop, after};
-ghost use Rattle.fields.specs.Answers.{passed, passing};
+ghost use Rattle.fields.specs.Answers.{passed, passing, held};
 ghost use Rattle.card.specs.Card.{editionP, fileP, fresh-card};
-ghost use Rattle.card.specs.Answers.{held, told, answer};
+ghost use Rattle.card.specs.Answers.{told, answer};
 
 // A card file that was read.
 pub struct Card {

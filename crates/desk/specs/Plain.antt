@@ -2,7 +2,7 @@
 use mathlib.Core.List.{List, map}
 use mathlib.Core.Path.{_≡_}
 use Prim.Native.Nat.{ℕ}
-use Rattle.card.specs.declared.places.BundlePlace.{BundlePlace}
+use Rattle.certificates.specs.declared.places.BundlePlace.{BundlePlace}
 use Rattle.steps.specs.Answer.{told}
 use Rattle.steps.specs.declared.Answer.{Answer}
 use Rattle.desk.specs.declared.plain.Plain.{Plain}

@@ -4,6 +4,7 @@ pub mod Counts
 pub mod Ends
 pub mod Filling
 pub mod Frauds
+pub mod Held
 pub mod Many
 pub mod Pinned
 pub mod Strings

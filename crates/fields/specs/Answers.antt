@@ -43,3 +43,8 @@ passing (stop r) = stop r
 abbrev pub passed : Past → Parsed (Unit {0})
 passed (past.Got e) = got tt e
 passed (past.Stop f) = stop (number f)
+
+-- a value beside the place past it: with a fault the value says nothing
+unfoldable pub held : {A : Type 0} → Past → A → Parsed A
+held (past.Got e) a = got a e
+held (past.Stop f) a = stop (number f)

@@ -13,12 +13,13 @@ use Rattle.record.specs.Certificate.{certificateOf}
 use Rattle.record.specs.Fresh.{fresh}
 use Rattle.record.specs.declared.Record.{Record}
 use Rattle.record.proofs.Meaning.{says-issuer, says-subject}
-use Rattle.card.specs.Card.{recordOf, sizeOf}
+use Rattle.certificates.specs.Certificates.{recordOf, sizeOf}
+use Rattle.certificates.proofs.Standing.{Stands}
 use Rattle.card.specs.Content.{Content, Issuer, root, bundled, contentOf, certificateAt, there, signed}
 use Rattle.card.specs.declared.Card.{Card}
 use Rattle.card.proofs.Sections.{CardRead}
 use Rattle.card.proofs.Signed.{root-signed, bundle-signed}
-use Rattle.card.proofs.Standing.{Stands, root-at, bundled-at, roots-counted, roots-few, bundle-counted, bundle-few, root-stands, bundled-stands}
+use Rattle.card.proofs.Standing.{root-at, bundled-at, roots-counted, roots-few, bundle-counted, bundle-few, root-stands, bundled-stands}
 use Rattle.rows.specs.Rows.{has, rowOf, listing}
 use Rattle.rows.proofs.Places.{has-none, has-row}
 use Rattle.rows.proofs.Listing.{listing-at}

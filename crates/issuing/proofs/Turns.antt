@@ -11,11 +11,12 @@ use lib.ListN.{getD, set, replicate}
 use borrow.Author.Tests.{leb-true, leb-false}
 use Rattle.record.specs.Fresh.{fresh}
 use Rattle.record.specs.declared.Record.{Record}
-use Rattle.card.specs.Card.{recordOf, sizeOf, rootSigned, bundleSigned}
-use Rattle.card.specs.declared.roots.Roots.{Roots}
-use Rattle.card.specs.declared.bundle.Bundle.{Bundle}
-use Rattle.card.specs.declared.verdicts.Verdicts.{Verdicts}
-use Rattle.card.proofs.Records.{record-there}
+use Rattle.certificates.specs.Certificates.{recordOf, sizeOf}
+use Rattle.verdicts.specs.Verdicts.{rootSigned, bundleSigned}
+use Rattle.certificates.specs.declared.roots.Roots.{Roots}
+use Rattle.certificates.specs.declared.bundle.Bundle.{Bundle}
+use Rattle.verdicts.specs.declared.Verdicts.{Verdicts}
+use Rattle.certificates.proofs.Records.{record-there}
 use Rattle.rows.specs.Rows.{rowOf, joined, listing}
 use Rattle.rows.proofs.Places.{row-none, row-more, row-kept}
 use Rattle.rows.proofs.Listing.{listing-none, listing-next}

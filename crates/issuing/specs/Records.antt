@@ -6,10 +6,11 @@ use Rattle.names.specs.Names.{nameP, sameDn}
 use Rattle.names.specs.Answers.{bothSame}
 use Rattle.record.specs.Certificate.{certificateOf}
 use Rattle.record.specs.declared.Record.{Record}
-use Rattle.card.specs.Card.{recordOf, sizeOf, rootSigned, bundleSigned}
-use Rattle.card.specs.declared.roots.Roots.{Roots}
-use Rattle.card.specs.declared.bundle.Bundle.{Bundle}
-use Rattle.card.specs.declared.verdicts.Verdicts.{Verdicts}
+use Rattle.certificates.specs.Certificates.{recordOf, sizeOf}
+use Rattle.certificates.specs.declared.roots.Roots.{Roots}
+use Rattle.certificates.specs.declared.bundle.Bundle.{Bundle}
+use Rattle.verdicts.specs.Verdicts.{rootSigned, bundleSigned}
+use Rattle.verdicts.specs.declared.Verdicts.{Verdicts}
 use Rattle.rows.specs.Rows.{rowOf, listing}
 use Rattle.issuing.specs.Issued.{keysFit}
 

@@ -11,8 +11,8 @@ use lib.Dec.{leb}
 use lib.ListN.{getD, set, replicate}
 use Rattle.record.specs.Fresh.{fresh}
 use Rattle.record.specs.declared.Record.{Record}
-use Rattle.card.specs.Card.{sizeOf, recordOf}
-use Rattle.card.proofs.Records.{record-there}
+use Rattle.certificates.specs.Certificates.{sizeOf, recordOf}
+use Rattle.certificates.proofs.Records.{record-there}
 use Rattle.rows.specs.Rows.{rowOf, joined, listing}
 use Rattle.rows.proofs.Places.{row-none, row-more, row-kept}
 use Rattle.rows.proofs.Listing.{listing-none, listing-next}

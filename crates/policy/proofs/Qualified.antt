@@ -9,10 +9,11 @@ use lib.Dec.{ltb}
 use lib.ListN.{length, getD, length-map}
 use borrow.Author.Tests.{lt-ltb, ltb-true, ltb-false}
 use Rattle.record.specs.Certificate.{Certificate}
+use Rattle.certificates.proofs.Standing.{count-few}
 use Rattle.card.specs.Content.{Content, contentOf, root, bundled, certificateAt}
 use Rattle.card.specs.declared.Card.{Card}
 use Rattle.card.proofs.Sections.{CardRead}
-use Rattle.card.proofs.Standing.{count-few, roots-counted, roots-few}
+use Rattle.card.proofs.Standing.{roots-counted, roots-few}
 use Rattle.rows.specs.Rows.{has, seek}
 use Rattle.rows.proofs.Places.{seek-least, seek-is, seek-same}
 use Rattle.issuing.specs.Issued.{issued}

@@ -11,11 +11,12 @@ use lib.ListN.{length, getD}
 use borrow.Author.Tests.{lt-ltb, le-leb}
 use Rattle.fields.specs.Fields.{bytesOf}
 use Rattle.record.specs.Certificate.{Certificate, certificateOf}
-use Rattle.card.specs.Card.{recordOf}
+use Rattle.certificates.specs.Certificates.{recordOf}
+use Rattle.certificates.proofs.Standing.{count-few}
 use Rattle.card.specs.Content.{contentOf, root, bundled, certificateAt}
 use Rattle.card.specs.declared.Card.{Card}
 use Rattle.card.proofs.Sections.{CardRead}
-use Rattle.card.proofs.Standing.{bundled-stands, count-few}
+use Rattle.card.proofs.Standing.{bundled-stands}
 use Rattle.rows.specs.Rows.{has}
 use Rattle.rows.proofs.Places.{has-row, has-none}
 use Rattle.rows.proofs.Listing.{listing-there}

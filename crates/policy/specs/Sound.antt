@@ -7,10 +7,10 @@ use mathlib.Core.Option.{Option, none, some}
 use Rattle.fields.specs.Fields.{bytesOf}
 use Rattle.record.specs.Certificate.{Certificate, certificateOf}
 use Rattle.record.specs.declared.Record.{Record}
-use Rattle.card.specs.Card.{recordOf, sizeOf}
+use Rattle.certificates.specs.Certificates.{recordOf, sizeOf}
+use Rattle.certificates.specs.declared.roots.Roots.{Roots}
+use Rattle.certificates.specs.declared.bundle.Bundle.{Bundle}
 use Rattle.card.specs.declared.Card.{Card}
-use Rattle.card.specs.declared.roots.Roots.{Roots}
-use Rattle.card.specs.declared.bundle.Bundle.{Bundle}
 use Rattle.rows.specs.Rows.{rowOf, listing}
 use Rattle.rules.specs.Rules.{inDate, wellFormed, handled, authority}
 use Rattle.rules.specs.Records.{forServersAt, forHostAt}

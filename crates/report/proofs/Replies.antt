@@ -3,7 +3,7 @@ use mathlib.Core.List.{List, _++_}
 use mathlib.Core.Path.{_≡_, refl}
 use Prim.Native.Nat.{ℕ, zero, suc, _≤_}
 use native.Mathlib.Omega.{arith}
-use Rattle.card.specs.declared.places.RootPlace.{RootPlace}
+use Rattle.certificates.specs.declared.places.RootPlace.{RootPlace}
 use Rattle.fields.specs.Answers.{number}
 use Rattle.fields.specs.declared.fault.Fault.{Fault}
 use Rattle.fields.specs.declared.fault.Fault.the-variants.{UnknownEdition, TooLong, CutShort, BadCount, BadValue, LeftOver}

@@ -5,7 +5,7 @@ use mathlib.Core.Path.{_≡_, refl, ap, _∙_}
 use Prim.Native.Nat.{ℕ, _-_}
 use lib.ListN.{length, take, replicate, length-map}
 use lib.Seq.{take-at}
-use Rattle.card.specs.declared.places.BundlePlace.{BundlePlace}
+use Rattle.certificates.specs.declared.places.BundlePlace.{BundlePlace}
 use Rattle.order.specs.Paths.{Places}
 use Rattle.steps.specs.declared.Answer.{Answer}
 use Rattle.steps.specs.declared.Reply.the-variants as reply

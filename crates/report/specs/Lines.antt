@@ -2,7 +2,7 @@
 use mathlib.Core.List.{List, [], _∷_, _++_, map}
 use Prim.Native.Nat.{ℕ, zero, suc, _-_}
 use lib.ListN.{length, take, replicate}
-use Rattle.card.specs.declared.places.BundlePlace.{BundlePlace}
+use Rattle.certificates.specs.declared.places.BundlePlace.{BundlePlace}
 use Rattle.steps.specs.declared.Answer.{Answer}
 use Rattle.steps.specs.declared.Path.{Path}
 use Rattle.steps.specs.Answer.{Told, told}

@@ -2,8 +2,9 @@
 use mathlib.Core.List.{List}
 use mathlib.Core.Path.{_≡_}
 use Prim.Native.Nat.{ℕ}
+use Rattle.certificates.specs.Certificates.{sizeOf}
 use Rattle.card.specs.Answers.{told, answer}
-use Rattle.card.specs.Card.{fileP, sizeOf}
+use Rattle.card.specs.Card.{fileP}
 use Rattle.card.specs.declared.Card.{Card}
 use Rattle.issuing.specs.Records.{bundleRows, rootRows}
 use Rattle.policy.specs.Sound.{soundPlaces, placeLimits, rootsAbove, rootLimits}

@@ -13,7 +13,7 @@ use Rattle.order.specs.Walk.{kids, paths}
 use Rattle.order.proofs.Waiting.{waiting-start, waiting-step, waiting-end}
 use Rattle.order.proofs.Tree.{paths-listing}
 use Rattle.steps.specs.declared.Reply.the-variants as reply
-use Rattle.card.specs.declared.places.RootPlace.{RootPlace}
+use Rattle.certificates.specs.declared.places.RootPlace.{RootPlace}
 use Rattle.rows.proofs.Places.{Least}
 use Rattle.steps.specs.declared.Answer.{Answer}
 use Rattle.steps.specs.Answer.{pathShown, shown, Paused}

@@ -7,7 +7,7 @@ use native.Mathlib.Omega.{arith}
 use borrow.Author.Tests.{ltb-true, ltb-false}
 use lib.Dec.{ltb}
 use lib.ListN.{length, getD}
-use Rattle.card.specs.declared.places.RootPlace.{RootPlace}
+use Rattle.certificates.specs.declared.places.RootPlace.{RootPlace}
 use Rattle.policy.specs.Judging.{lastOf, stands, allStand, lowestAbove, judgedRoot, topOf}
 use Rattle.policy.specs.declared.path.Top.the-variants as top
 use Rattle.rows.specs.Rows.{has, seek}

@@ -7,7 +7,7 @@ use native.Mathlib.Numerals.{add-one}
 use native.Mathlib.Omega.{arith}
 use lib.ListN.{length, take, drop, getD, set, length-drop}
 use lib.Seq.{getD-drop, take-all}
-use Rattle.card.specs.declared.places.BundlePlace.{BundlePlace}
+use Rattle.certificates.specs.declared.places.BundlePlace.{BundlePlace}
 use Rattle.steps.specs.Answer.{placed, pathShown}
 use Rattle.steps.specs.Slots.{padded, slotOf, pathOf}
 use Rattle.steps.proofs.Stack.{slot-len}

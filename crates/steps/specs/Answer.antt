@@ -6,7 +6,7 @@ use Prim.Native.Nat.{ℕ, _<_}
 use lib.Dec.{ltb}
 use lib.ListN.{length, getD}
 use Rattle.fields.specs.Answers.{number}
-use Rattle.card.specs.declared.places.BundlePlace.{BundlePlace}
+use Rattle.certificates.specs.declared.places.BundlePlace.{BundlePlace}
 use Rattle.issuing.specs.declared.Issuing.{Issuing}
 use Rattle.order.specs.Paths.{Places}
 use Rattle.policy.specs.Judging.{lastOf, stands, allStand}

@@ -1,5 +1,5 @@
 -- `settled` hands out the card where nothing is left over, and with a fault nothing of what was read before it. Assumes nothing.
-use Rattle.card.specs.Answers.{held}
+use Rattle.fields.specs.Answers.{held}
 use borrow.Author.Needs.{needs}
 use Rattle.card.proofs.settled.Statement.{statement}
 use Rattle.card.proofs.settled.Tie as tie

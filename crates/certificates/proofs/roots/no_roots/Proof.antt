@@ -1,0 +1,16 @@
+-- `no_roots` answers the fault. Assumes nothing.
+use borrow.Author.Needs.{needs}
+use mathlib.Core.Path.{refl}
+use Rattle.fields.specs.Answers.{held}
+use Rattle.certificates.proofs.roots.no_roots.Statement.{statement}
+use Rattle.certificates.proofs.roots.no_roots.Tie as tie
+
+new-requires : tie.Need-new-requires
+new-requires c κs = search needs
+
+returns : tie.Need-returns
+unfolding held
+returns c = refl
+
+pub no-roots-spec : {M : Type 1} → statement M
+no-roots-spec = tie.close (tie.spec new-requires returns)

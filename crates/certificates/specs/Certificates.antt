@@ -1,0 +1,49 @@
+-- The two lists of certificates in a card file, roots and bundle: how they stand in a file, each after its count, and the record at a
+-- place (docs/CARD-FILE.md, "Layout"). What is found are numbers and places in the file. Assumes nothing.
+use Prim.Native.Nat.{ℕ, _-_}
+use mathlib.Core.Bool.{cond}
+use mathlib.Core.List.{List, _++_}
+use lib.Dec.{leb, ltb}
+use lib.ListN.{length, getD, replicate}
+use Rattle.fields.specs.Fields.{Parsed, got, after, countedP}
+use Rattle.record.specs.Record.{recordP}
+use Rattle.record.specs.Fresh.{fresh}
+use Rattle.record.specs.declared.Record.{Record}
+use Rattle.certificates.specs.declared.roots.Roots.{Roots}
+use Rattle.certificates.specs.declared.bundle.Bundle.{Bundle}
+
+-- records in front, and the record of nothing but zeros at the places past them
+unfoldable pub filled : ℕ → List Record → List Record
+filled most records = records ++ replicate (most - length records) fresh
+
+abbrev pub filledRoots : Parsed (List Record) → Parsed Roots
+filledRoots x = after x (λ l e. got (record { count = length l; records = filled 32 l }) e)
+
+abbrev pub filledBundle : Parsed (List Record) → Parsed Bundle
+filledBundle x = after x (λ l e. got (record { count = length l; records = filled 16 l }) e)
+
+-- count byte 0..32, then records
+unfoldable pub rootsP : List ℕ → ℕ → Parsed Roots
+rootsP s at = filledRoots (countedP 0 32 recordP s at)
+
+-- count byte 0..16, then records
+unfoldable pub bundleP : List ℕ → ℕ → Parsed Bundle
+bundleP s at = filledBundle (countedP 0 16 recordP s at)
+
+-- ---- what stands where nothing was read
+
+abbrev pub fresh-roots : Roots
+fresh-roots = record { count = 0; records = replicate 32 fresh }
+
+abbrev pub fresh-bundle : Bundle
+fresh-bundle = record { count = 0; records = replicate 16 fresh }
+
+-- ---- by place
+
+-- how many records there are: a count, but no more than there is room for
+unfoldable pub sizeOf : ℕ → ℕ → ℕ
+sizeOf most count = cond (leb count most) count most
+
+-- the record at a place; nothing but zeros at a place past the count
+unfoldable pub recordOf : ℕ → List Record → ℕ → Record
+recordOf count records place = cond (ltb place count) (getD records place fresh) fresh

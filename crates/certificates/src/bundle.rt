@@ -1,0 +1,127 @@
+// The bundle: a count and so many records, the leaf first.
+use crate::places::BundlePlace;
+use fields::CountAt;
+use fields::Fault;
+use fields::Past;
+use fields::count_at;
+use record::Record;
+use record::RecordAt;
+use record::record_at;
+ghost use mathlib.Core.Path.{_≡_};
+ghost use Prim.Native.Nat.{_≤_};
+ghost use lib.ListN.{replicate};
+ghost use Rattle.fields.specs.Fields.{stop, after, many};
+ghost use Rattle.fields.specs.Answers.{number, passed, held};
+ghost use Rattle.record.specs.Fresh.{fresh};
+ghost use Rattle.record.specs.Record.{recordP};
+ghost use Rattle.certificates.specs.Certificates.{filledBundle, bundleP, recordOf, sizeOf};
+
+pub struct Bundle {
+    pub count: u8,
+    pub records: [Record; Bundle::MOST],
+}
+
+impl Bundle {
+    pub const LEAST: usize = 0;
+
+    pub const MOST: usize = 16;
+
+    // No certificates.
+    pub fn new() -> Bundle
+        ensures { λ r. ⌜ (r .count ≡ 0) × (r .records ≡ replicate 16 fresh) ⌝ }
+    {
+        let none = Record::new();
+        Bundle {
+            count: 0,
+            records: [none; Bundle::MOST],
+        }
+    }
+
+    // How many there are: the count, but no more than there is room for.
+    pub fn size(self) -> u8
+        ensures { λ r. ⌜ r ≡ sizeOf 16 (self .count) ⌝ }
+    {
+        if Bundle::MOST < self.count as usize {
+            return Bundle::MOST as u8;
+        }
+        self.count
+    }
+
+    // The record of a certificate; the one of nothing but zeros where there is no such place.
+    pub fn record(self, place: BundlePlace) -> Record
+        ensures { λ r. ⌜ r ≡ recordOf (self .count) (self .records) (place .0) ⌝ }
+    {
+        if self.count <= place.0 {
+            return Record::new();
+        }
+        let i = place.0 as usize;
+        if Bundle::MOST <= i {
+            return Record::new();
+        }
+        self.records[i]
+    }
+}
+
+// The bundle and the place past it; no certificates with a fault.
+pub struct BundleRead {
+    pub past: Past,
+    pub bundle: Bundle,
+}
+
+// The bundle where the roots end. Each arm returns, so that the records are not copied out of the match.
+pub fn bundle_after(file: &[u8], past: Past) -> BundleRead
+    ensures { λ r. ⌜ held (r .past) (r .bundle) ≡ after (passed past) (λ _ at. bundleP (now (file .entry)) at) ⌝ }
+{
+    match past {
+        Past::Got(at) => match count_at(file, at, Bundle::LEAST, Bundle::MOST) {
+            CountAt::Got { count, next } => {
+                return bundle_records(file, next, count);
+            }
+            CountAt::Stop(fault) => {
+                return no_bundle(fault);
+            }
+        },
+        Past::Stop(fault) => {
+            return no_bundle(fault);
+        }
+    }
+}
+
+// n records from the first on.
+fn bundle_records(file: &[u8], first: usize, n: usize) -> BundleRead
+    requires { ⌜ n ≤ 16 ⌝ }
+    ensures { λ r. ⌜ held (r .past) (r .bundle) ≡ filledBundle (many recordP n (now (file .entry)) first) ⌝ }
+{
+    let none = Record::new();
+    let mut records = [none; Bundle::MOST];
+    let mut at = first;
+    let mut i: usize = 0;
+    while i < n {
+        match record_at(file, at) {
+            RecordAt::Got { record, next } => {
+                records[i] = record;
+                at = next;
+                i += 1;
+            }
+            RecordAt::Stop(fault) => {
+                return no_bundle(fault);
+            }
+        }
+    }
+    BundleRead {
+        past: Past::Got(at),
+        bundle: Bundle {
+            count: n as u8,
+            records,
+        },
+    }
+}
+
+fn no_bundle(fault: Fault) -> BundleRead
+    ensures { λ r. ⌜ held (r .past) (r .bundle) ≡ stop (number fault) ⌝ }
+{
+    BundleRead {
+        past: Past::Stop(fault),
+        bundle: Bundle::new(),
+    }
+}

@@ -1,0 +1,127 @@
+// The roots: a count and so many records.
+use crate::places::RootPlace;
+use fields::CountAt;
+use fields::Fault;
+use fields::Past;
+use fields::count_at;
+use record::Record;
+use record::RecordAt;
+use record::record_at;
+ghost use mathlib.Core.Path.{_≡_};
+ghost use Prim.Native.Nat.{_≤_};
+ghost use lib.ListN.{replicate};
+ghost use Rattle.fields.specs.Fields.{stop, after, many};
+ghost use Rattle.fields.specs.Answers.{number, passed, held};
+ghost use Rattle.record.specs.Fresh.{fresh};
+ghost use Rattle.record.specs.Record.{recordP};
+ghost use Rattle.certificates.specs.Certificates.{filledRoots, rootsP, recordOf, sizeOf};
+
+pub struct Roots {
+    pub count: u8,
+    pub records: [Record; Roots::MOST],
+}
+
+impl Roots {
+    pub const LEAST: usize = 0;
+
+    pub const MOST: usize = 32;
+
+    // No roots.
+    pub fn new() -> Roots
+        ensures { λ r. ⌜ (r .count ≡ 0) × (r .records ≡ replicate 32 fresh) ⌝ }
+    {
+        let none = Record::new();
+        Roots {
+            count: 0,
+            records: [none; Roots::MOST],
+        }
+    }
+
+    // How many there are: the count, but no more than there is room for.
+    pub fn size(self) -> u8
+        ensures { λ r. ⌜ r ≡ sizeOf 32 (self .count) ⌝ }
+    {
+        if Roots::MOST < self.count as usize {
+            return Roots::MOST as u8;
+        }
+        self.count
+    }
+
+    // The record of a root; the one of nothing but zeros where there is no such root.
+    pub fn record(self, place: RootPlace) -> Record
+        ensures { λ r. ⌜ r ≡ recordOf (self .count) (self .records) (place .0) ⌝ }
+    {
+        if self.count <= place.0 {
+            return Record::new();
+        }
+        let i = place.0 as usize;
+        if Roots::MOST <= i {
+            return Record::new();
+        }
+        self.records[i]
+    }
+}
+
+// The roots and the place past them; no roots with a fault.
+pub struct RootsRead {
+    pub past: Past,
+    pub roots: Roots,
+}
+
+// The roots where the edition ends. Each arm returns, so that the records are not copied out of the match.
+pub fn roots_after(file: &[u8], past: Past) -> RootsRead
+    ensures { λ r. ⌜ held (r .past) (r .roots) ≡ after (passed past) (λ _ at. rootsP (now (file .entry)) at) ⌝ }
+{
+    match past {
+        Past::Got(at) => match count_at(file, at, Roots::LEAST, Roots::MOST) {
+            CountAt::Got { count, next } => {
+                return root_records(file, next, count);
+            }
+            CountAt::Stop(fault) => {
+                return no_roots(fault);
+            }
+        },
+        Past::Stop(fault) => {
+            return no_roots(fault);
+        }
+    }
+}
+
+// n records from the first on.
+fn root_records(file: &[u8], first: usize, n: usize) -> RootsRead
+    requires { ⌜ n ≤ 32 ⌝ }
+    ensures { λ r. ⌜ held (r .past) (r .roots) ≡ filledRoots (many recordP n (now (file .entry)) first) ⌝ }
+{
+    let none = Record::new();
+    let mut records = [none; Roots::MOST];
+    let mut at = first;
+    let mut i: usize = 0;
+    while i < n {
+        match record_at(file, at) {
+            RecordAt::Got { record, next } => {
+                records[i] = record;
+                at = next;
+                i += 1;
+            }
+            RecordAt::Stop(fault) => {
+                return no_roots(fault);
+            }
+        }
+    }
+    RootsRead {
+        past: Past::Got(at),
+        roots: Roots {
+            count: n as u8,
+            records,
+        },
+    }
+}
+
+fn no_roots(fault: Fault) -> RootsRead
+    ensures { λ r. ⌜ held (r .past) (r .roots) ≡ stop (number fault) ⌝ }
+{
+    RootsRead {
+        past: Past::Stop(fault),
+        roots: Roots::new(),
+    }
+}

@@ -1,0 +1,35 @@
+-- The verdicts and their count, which must be the product of issuers and subjects: how large it can be, and one law for each answer of
+-- `verdicts_after` where the bundle ends. Assumes nothing.
+use Prim.Native.Nat.{ℕ, _+_, _*_, _<_, _≤_}
+use mathlib.Core.Path.{_≡_, sym, _∙_}
+use mathlib.Core.List.{List}
+use native.Mathlib.Omega.{arith}
+use native.Mathlib.Nat.{mul-le-mul}
+use borrow.Author.Tests.{eq-eqb, ne-eqb}
+use Rattle.fields.specs.Fields.{got, stop, bigP, many}
+use Rattle.fields.specs.Answers.{passing, passed, held}
+use Rattle.fields.specs.declared.Past.{Past}
+use Rattle.fields.proofs.Held.{held-after}
+use Rattle.verdicts.specs.Verdicts.{verdictP, verdictsP}
+
+-- rows for two counts of a byte each, and columns for one
+pub few : (rows columns : ℕ) → rows ≤ 510 → columns < 256 → rows * columns ≤ 130050
+few rows columns r c =
+    let k : columns ≤ 255 = omega arith in
+    mul-le-mul r k
+
+module _ (roots bundle : ℕ) (s : List ℕ) (at : ℕ) where
+  pub uncounted : (r : ℕ) → bigP 2 s at ≡ stop r → verdictsP roots bundle s at ≡ stop r
+  unfolding verdictsP
+  uncounted r h = rw h
+
+  module _ (n e asked : ℕ) (h : bigP 2 s at ≡ got n e) (a : asked ≡ (roots + bundle) * bundle) where
+    pub miscounted : (n ≡ asked → ⊥) → verdictsP roots bundle s at ≡ stop 7
+    unfolding verdictsP
+    miscounted d = rw (h, ne-eqb n ((roots + bundle) * bundle) (λ q. d (q ∙ sym a)))
+
+    pub all-read : (p : Past) → n ≡ asked → passed p ≡ passing (many verdictP asked s e)
+        → held p (record { roots = roots; bundle = bundle; first = e }) ≡ verdictsP roots bundle s at
+    unfolding verdictsP
+    all-read p q t =
+        rw (h, eq-eqb n ((roots + bundle) * bundle) (q ∙ a), q) (held-after p _ (many verdictP asked s e) t)

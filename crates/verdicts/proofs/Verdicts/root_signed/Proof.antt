@@ -1,0 +1,25 @@
+-- `root_signed` is the verdict in the row of a root that is there. Assumes nothing.
+use borrow.Author.Needs.{needs}
+use mathlib.Core.Path.{_∙_}
+use Rattle.verdicts.proofs.Columns.{no-root, by-root}
+use Rattle.verdicts.proofs.Verdicts.root_signed.Statement.{statement}
+use Rattle.verdicts.proofs.Verdicts.root_signed.Tie as tie
+
+returns : tie.Need-returns
+returns c = no-root _ _ _ _ (c .if1 .taken)
+
+cast-signed-at : tie.Need-cast-signed-at
+cast-signed-at c = search needs
+
+cast-signed-at-2 : tie.Need-cast-signed-at-2
+cast-signed-at-2 c = search needs
+
+signed-at-requires : tie.Need-signed-at-requires
+signed-at-requires c κs = search needs
+
+returns-2 : tie.Need-returns-2
+returns-2 c = c .signed-at .ensures ∙ by-root _ _ _ _ (c .before .before .before .if1 .left)
+
+pub root-signed-spec : {M : Type 1} → statement M
+root-signed-spec =
+    tie.close (tie.spec returns cast-signed-at cast-signed-at-2 signed-at-requires returns-2)

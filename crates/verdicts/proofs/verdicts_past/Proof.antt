@@ -1,0 +1,63 @@
+-- `verdicts_past` ends where so many verdicts end. The invariant: what is left to pass ends where all of them do. Assumes nothing.
+use borrow.Author.Needs.{needs}
+use mathlib.Core.Path.{refl, sym, ap, _∙_}
+use Rattle.fields.specs.Answers.{passed}
+use Rattle.lists.proofs.Rows.{Left, row-next, row-stops, row-ends}
+use Rattle.verdicts.specs.Verdicts.{verdictP}
+use Rattle.verdicts.proofs.verdicts_past.Statement.{statement}
+use Rattle.verdicts.proofs.verdicts_past.Tie as tie
+
+abbrev Inv-loop : tie.InvT-loop
+Inv-loop file first n at₀ left₀ at left = Left verdictP file first n at left
+
+abbrev μ-loop : tie.MeasureT-loop
+μ-loop file first n at₀ left₀ at left = left
+
+loop-holds : tie.Need-loop-holds Inv-loop μ-loop
+loop-holds c = refl
+
+verdict-at-requires : tie.Need-verdict-at-requires Inv-loop μ-loop
+verdict-at-requires c κs = search needs
+
+enum-known-next : tie.Need-enum-known-next Inv-loop μ-loop
+enum-known-next c = search needs
+
+sub-left : tie.Need-sub-left Inv-loop μ-loop
+sub-left c = search needs
+
+loop-less : tie.Need-loop-less Inv-loop μ-loop
+loop-less c = search needs
+
+loop-again : tie.Need-loop-again Inv-loop μ-loop
+loop-again c =
+    let a = c .before .before .before in
+    let q = sym (a .verdict-at .ensures) ∙ ap passed (c .before .next .given .1) in
+    row-next _ _ _ _ _ _ _ (a .before .before .loop .inv) (a .before .loop-test .taken) q
+
+enum-known-fault : tie.Need-enum-known-fault Inv-loop μ-loop
+enum-known-fault c = search needs
+
+returns : tie.Need-returns Inv-loop μ-loop
+returns c =
+    let a = c .before .before .before in
+    let q = sym (a .verdict-at .ensures) ∙ ap passed (c .before .fault .given .1) in
+    row-stops _ _ _ _ _ _ _ (a .before .before .loop .inv) (a .before .loop-test .taken) q
+
+returns-2 : tie.Need-returns-2 Inv-loop μ-loop
+returns-2 c = row-ends _ _ _ _ _ _ (c .before .loop .inv) (c .loop-test .left)
+
+pub verdicts-past-spec : {M : Type 1} → statement M
+verdicts-past-spec =
+    tie.close
+    (tie.spec
+    Inv-loop
+    μ-loop
+    loop-holds
+    verdict-at-requires
+    enum-known-next
+    sub-left
+    loop-less
+    loop-again
+    enum-known-fault
+    returns
+    returns-2)

@@ -1,0 +1,175 @@
+// The verdicts of a card file: who signed whom, a row for each issuer and a column for each subject, by where the first stands.
+// They are read where the bundle ends; what certificates stand at these places is left to the crates above.
+use certificates::BundlePlace;
+use certificates::RootPlace;
+use fields::CountAt;
+use fields::Fault;
+use fields::NumberAt;
+use fields::Past;
+use fields::count_at;
+use fields::u16_at;
+ghost use mathlib.Core.Path.{_≡_};
+ghost use Prim.Native.Nat.{_+_, _*_, _≤_};
+ghost use Rattle.fields.specs.Fields.{stop, after, many};
+ghost use Rattle.fields.specs.Answers.{number, passed, passing, held};
+ghost use Rattle.verdicts.specs.Verdicts.{verdictP, verdictsP, fresh-verdicts, signedAt, rootSigned, bundleSigned};
+
+// Verdicts on so many roots and so large a bundle, from the first one on.
+pub struct Verdicts {
+    pub roots: u8,
+    pub bundle: u8,
+    pub first: usize,
+}
+
+impl Verdicts {
+    pub const YES: usize = 1;
+
+    // No verdicts.
+    pub fn new() -> Verdicts
+        ensures { λ r. ⌜ r ≡ fresh-verdicts ⌝ }
+    {
+        Verdicts {
+            roots: 0,
+            bundle: 0,
+            first: 0,
+        }
+    }
+
+    // How many verdicts a file must have.
+    pub fn asked(roots: u8, bundle: u8) -> usize
+        ensures { λ r. ⌜ r ≡ (roots + bundle) * bundle ⌝ }
+    {
+        (roots as usize + bundle as usize) * (bundle as usize)
+    }
+
+    // A root signed a certificate of the bundle; no where there is no such place.
+    pub fn root_signed(self, file: &[u8], issuer: RootPlace, subject: BundlePlace) -> bool
+        ensures { λ r. ⌜ r ≡ rootSigned self (now (file .entry)) (issuer .0) (subject .0) ⌝ }
+    {
+        if self.roots <= issuer.0 {
+            return false;
+        }
+        signed_at(self, file, issuer.0 as usize, subject.0 as usize)
+    }
+
+    // A certificate of the bundle signed another, or itself; no where there is no such place.
+    pub fn bundle_signed(self, file: &[u8], issuer: BundlePlace, subject: BundlePlace) -> bool
+        ensures { λ r. ⌜ r ≡ bundleSigned self (now (file .entry)) (issuer .0) (subject .0) ⌝ }
+    {
+        if self.bundle <= issuer.0 {
+            return false;
+        }
+        signed_at(
+            self,
+            file,
+            self.roots as usize + issuer.0 as usize,
+            subject.0 as usize,
+        )
+    }
+}
+
+// A row's verdict in a column.
+fn signed_at(verdicts: Verdicts, file: &[u8], row: usize, column: usize) -> bool
+    requires { ⌜ row ≤ 510 ⌝ }
+    ensures { λ r. ⌜ r ≡ signedAt verdicts (now (file .entry)) row column ⌝ }
+{
+    let columns = verdicts.bundle as usize;
+    let first = verdicts.first;
+    if columns <= column {
+        return false;
+    }
+    if file.len() <= first {
+        return false;
+    }
+    let past = row * columns + column;
+    if file.len() - first <= past {
+        return false;
+    }
+    let at = first + past;
+    file[at] as usize == Verdicts::YES
+}
+
+// The verdicts and the place past them.
+pub struct VerdictsRead {
+    pub past: Past,
+    pub verdicts: Verdicts,
+}
+
+// The verdicts where the bundle ends.
+pub fn verdicts_after(file: &[u8], past: Past, roots: u8, bundle: u8) -> VerdictsRead
+    ensures { λ r. ⌜ held (r .past) (r .verdicts) ≡ after (passed past) (λ _ at. verdictsP roots bundle (now (file .entry)) at) ⌝ }
+{
+    match past {
+        Past::Got(at) => match u16_at(file, at) {
+            NumberAt::Got { value, next } => {
+                let n = Verdicts::asked(roots, bundle);
+                if value == n as u64 {
+                    return VerdictsRead {
+                        past: verdicts_past(file, next, n),
+                        verdicts: Verdicts {
+                            roots,
+                            bundle,
+                            first: next,
+                        },
+                    };
+                }
+                return no_verdicts(Fault::BadCount);
+            }
+            NumberAt::Stop(fault) => {
+                return no_verdicts(fault);
+            }
+        },
+        Past::Stop(fault) => {
+            return no_verdicts(fault);
+        }
+    }
+}
+
+// The place past n verdicts.
+fn verdicts_past(file: &[u8], first: usize, n: usize) -> Past
+    ensures { λ r. ⌜ passed r ≡ passing (many verdictP n (now (file .entry)) first) ⌝ }
+{
+    let mut at = first;
+    let mut left = n;
+    while 0 < left {
+        match verdict_at(file, at) {
+            Past::Got(next) => {
+                at = next;
+                left -= 1;
+            }
+            Past::Stop(fault) => {
+                return Past::Stop(fault);
+            }
+        }
+    }
+    Past::Got(at)
+}
+
+// A verdict is a bad value above yes, judged when it is read.
+fn verdict_at(file: &[u8], at: usize) -> Past
+    ensures { λ r. ⌜ passed r ≡ passing (verdictP (now (file .entry)) at) ⌝ }
+{
+    match count_at(file, at, 0, 255) {
+        CountAt::Got {
+            count: verdict,
+            next,
+        } => {
+            if Verdicts::YES < verdict {
+                return Past::Stop(Fault::BadValue);
+            }
+            return Past::Got(next);
+        }
+        CountAt::Stop(fault) => {
+            return Past::Stop(fault);
+        }
+    }
+}
+
+fn no_verdicts(fault: Fault) -> VerdictsRead
+    ensures { λ r. ⌜ held (r .past) (r .verdicts) ≡ stop (number fault) ⌝ }
+{
+    VerdictsRead {
+        past: Past::Stop(fault),
+        verdicts: Verdicts::new(),
+    }
+}
