@@ -11,10 +11,10 @@ ghost use mathlib.Core.Path.{_≡_};
 ghost use Prim.Native.Nat.{_≤_};
 ghost use lib.ListN.{replicate};
 ghost use Rattle.fields.specs.Fields.{stop, after, many};
-ghost use Rattle.fields.specs.Answers.{number, passed, held};
+ghost use Rattle.fields.specs.Answers.{number, passed, held, Emptied};
 ghost use Rattle.record.specs.Fresh.{fresh};
 ghost use Rattle.record.specs.Record.{recordP};
-ghost use Rattle.certificates.specs.Certificates.{filledBundle, bundleP, recordOf, sizeOf};
+ghost use Rattle.certificates.specs.Certificates.{filledBundle, bundleP, fresh-bundle, recordOf, sizeOf};
 
 pub struct Bundle {
     pub count: u8,
@@ -71,6 +71,7 @@ pub struct BundleRead {
 // The bundle where the roots end. Each arm returns, so that the records are not copied out of the match.
 pub fn bundle_after(file: &[u8], past: Past) -> BundleRead
     ensures { λ r. ⌜ held (r .past) (r .bundle) ≡ after (passed past) (λ _ at. bundleP (now (file .entry)) at) ⌝ }
+    ensures { λ r. ⌜ Emptied (r .past) (r .bundle) fresh-bundle ⌝ }
 {
     match past {
         Past::Got(at) => match count_at(file, at, Bundle::LEAST, Bundle::MOST) {
@@ -91,6 +92,7 @@ pub fn bundle_after(file: &[u8], past: Past) -> BundleRead
 fn bundle_records(file: &[u8], first: usize, n: usize) -> BundleRead
     requires { ⌜ n ≤ 16 ⌝ }
     ensures { λ r. ⌜ held (r .past) (r .bundle) ≡ filledBundle (many recordP n (now (file .entry)) first) ⌝ }
+    ensures { λ r. ⌜ Emptied (r .past) (r .bundle) fresh-bundle ⌝ }
 {
     let none = Record::new();
     let mut records = [none; Bundle::MOST];
@@ -119,6 +121,7 @@ fn bundle_records(file: &[u8], first: usize, n: usize) -> BundleRead
 
 fn no_bundle(fault: Fault) -> BundleRead
     ensures { λ r. ⌜ held (r .past) (r .bundle) ≡ stop (number fault) ⌝ }
+    ensures { λ r. ⌜ Emptied (r .past) (r .bundle) fresh-bundle ⌝ }
 {
     BundleRead {
         past: Past::Stop(fault),

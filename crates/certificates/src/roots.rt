@@ -11,10 +11,10 @@ ghost use mathlib.Core.Path.{_≡_};
 ghost use Prim.Native.Nat.{_≤_};
 ghost use lib.ListN.{replicate};
 ghost use Rattle.fields.specs.Fields.{stop, after, many};
-ghost use Rattle.fields.specs.Answers.{number, passed, held};
+ghost use Rattle.fields.specs.Answers.{number, passed, held, Emptied};
 ghost use Rattle.record.specs.Fresh.{fresh};
 ghost use Rattle.record.specs.Record.{recordP};
-ghost use Rattle.certificates.specs.Certificates.{filledRoots, rootsP, recordOf, sizeOf};
+ghost use Rattle.certificates.specs.Certificates.{filledRoots, rootsP, fresh-roots, recordOf, sizeOf};
 
 pub struct Roots {
     pub count: u8,
@@ -71,6 +71,7 @@ pub struct RootsRead {
 // The roots where the edition ends. Each arm returns, so that the records are not copied out of the match.
 pub fn roots_after(file: &[u8], past: Past) -> RootsRead
     ensures { λ r. ⌜ held (r .past) (r .roots) ≡ after (passed past) (λ _ at. rootsP (now (file .entry)) at) ⌝ }
+    ensures { λ r. ⌜ Emptied (r .past) (r .roots) fresh-roots ⌝ }
 {
     match past {
         Past::Got(at) => match count_at(file, at, Roots::LEAST, Roots::MOST) {
@@ -91,6 +92,7 @@ pub fn roots_after(file: &[u8], past: Past) -> RootsRead
 fn root_records(file: &[u8], first: usize, n: usize) -> RootsRead
     requires { ⌜ n ≤ 32 ⌝ }
     ensures { λ r. ⌜ held (r .past) (r .roots) ≡ filledRoots (many recordP n (now (file .entry)) first) ⌝ }
+    ensures { λ r. ⌜ Emptied (r .past) (r .roots) fresh-roots ⌝ }
 {
     let none = Record::new();
     let mut records = [none; Roots::MOST];
@@ -119,6 +121,7 @@ fn root_records(file: &[u8], first: usize, n: usize) -> RootsRead
 
 fn no_roots(fault: Fault) -> RootsRead
     ensures { λ r. ⌜ held (r .past) (r .roots) ≡ stop (number fault) ⌝ }
+    ensures { λ r. ⌜ Emptied (r .past) (r .roots) fresh-roots ⌝ }
 {
     RootsRead {
         past: Past::Stop(fault),

@@ -1,11 +1,11 @@
 -- No two answers say the same: what an answer stands for pins the answer down, since a fault is found again from its number.
 -- Assumes nothing.
 use Prim.Native.Nat.{ℕ}
-use mathlib.Core.Path.{_≡_, refl, sym, ap, _∙_}
+use mathlib.Core.Path.{_≡_, refl, sym, ap, ap₂, _∙_}
 use mathlib.Core.Bool.{cond}
 use lib.Dec.{eqb}
 use Rattle.fields.specs.Fields.{Parsed, got, stop}
-use Rattle.fields.specs.Answers.{number, counted, spanned, numbered, passed}
+use Rattle.fields.specs.Answers.{number, counted, spanned, numbered, passed, held, Emptied}
 use Rattle.fields.specs.declared.fault.Fault.{Fault}
 use Rattle.fields.specs.declared.fault.Fault.the-variants.{UnknownEdition, TooLong, CutShort, BadCount, BadValue, LeftOver}
 use Rattle.fields.specs.declared.count.CountAt.{CountAt}
@@ -88,3 +88,17 @@ passed-pins = pins passed back again
     again : (a : Past) → back (passed a) ≡ a
     again (past.Got e) = refl
     again (past.Stop f) = ap past.Stop (fault-again f)
+
+-- a value beside the place past it, with a fault the value of nothing
+pub held-pins : {A : Type 0} (none : A) (p q : Past) (a b : A) → Emptied p a none → Emptied q b none → held p a ≡ held q b
+    → _≡_ {A = Past × A} (p, a) (q, b)
+unfolding held
+held-pins {A = A} none p q a b x y h = sym (again p a x) ∙ ap back h ∙ again q b y
+  where
+    back : Parsed A → Past × A
+    back (got v e) = (past.Got e, v)
+    back (stop r) = (past.Stop (faultOf r), none)
+
+    again : (p : Past) (a : A) → Emptied p a none → back (held p a) ≡ (p, a)
+    again (past.Got e) a x = refl
+    again (past.Stop f) a x = ap₂ (λ g v. (past.Stop g, v)) (fault-again f) (sym x)

@@ -1,6 +1,7 @@
 -- What each case of an answer stands for: the paper's number of a fault, the values of what was read.
 -- Assumes nothing.
 use Prim.Native.Nat.{ℕ}
+use mathlib.Core.Path.{_≡_}
 use Rattle.fields.specs.Fields.{Parsed, got, stop}
 use Rattle.fields.specs.declared.fault.Fault.{Fault}
 use Rattle.fields.specs.declared.fault.Fault.the-variants.{UnknownEdition, TooLong, CutShort, BadCount, BadValue, LeftOver}
@@ -48,3 +49,8 @@ passed (past.Stop f) = stop (number f)
 unfoldable pub held : {A : Type 0} → Past → A → Parsed A
 held (past.Got e) a = got a e
 held (past.Stop f) a = stop (number f)
+
+-- with a fault, the value of nothing
+abbrev pub Emptied : {A : Type 0} → Past → A → A → Type 0
+Emptied (past.Got e) a none = Unit {0}
+Emptied (past.Stop f) a none = a ≡ none

@@ -11,7 +11,7 @@ use fields::string_at;
 use fields::u64_at;
 ghost use mathlib.Core.Path.{_≡_};
 ghost use Rattle.fields.specs.Fields.{stop, after};
-ghost use Rattle.fields.specs.Answers.{number, passed, passing, held};
+ghost use Rattle.fields.specs.Answers.{number, passed, passing, held, Emptied};
 ghost use Rattle.task.specs.Task.{timesP, purposeP, taskP, fresh-task};
 ghost use Rattle.task.specs.Answers.{timed};
 
@@ -51,7 +51,7 @@ impl Task {
     }
 }
 
-// The task and the place past it.
+// The task and the place past it; with a fault nothing is asked.
 pub struct TaskRead {
     pub past: Past,
     pub task: Task,
@@ -65,6 +65,7 @@ enum TimesAt {
 // The task where the verdicts end.
 pub fn task_after(file: &[u8], past: Past) -> TaskRead
     ensures { λ r. ⌜ held (r .past) (r .task) ≡ after (passed past) (λ _ at. taskP (now (file .entry)) at) ⌝ }
+    ensures { λ r. ⌜ Emptied (r .past) (r .task) fresh-task ⌝ }
 {
     match past {
         Past::Got(at) => {
@@ -78,6 +79,7 @@ pub fn task_after(file: &[u8], past: Past) -> TaskRead
 
 fn task_at(file: &[u8], at: usize) -> TaskRead
     ensures { λ r. ⌜ held (r .past) (r .task) ≡ taskP (now (file .entry)) at ⌝ }
+    ensures { λ r. ⌜ Emptied (r .past) (r .task) fresh-task ⌝ }
 {
     match times_at(file, at) {
         TimesAt::Got {
@@ -162,6 +164,7 @@ fn purpose_at(file: &[u8], at: usize) -> Past
 
 fn no_task(fault: Fault) -> TaskRead
     ensures { λ r. ⌜ held (r .past) (r .task) ≡ stop (number fault) ⌝ }
+    ensures { λ r. ⌜ Emptied (r .past) (r .task) fresh-task ⌝ }
 {
     TaskRead {
         past: Past::Stop(fault),

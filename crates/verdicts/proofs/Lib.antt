@@ -1,3 +1,4 @@
 pub mod Columns
+pub mod Pinned
 pub mod Product
 pub mod Rows

@@ -6,10 +6,7 @@ use mathlib.Core.List.{List}
 use native.Mathlib.Omega.{arith}
 use native.Mathlib.Nat.{mul-le-mul}
 use borrow.Author.Tests.{eq-eqb, ne-eqb}
-use Rattle.fields.specs.Fields.{got, stop, bigP, many}
-use Rattle.fields.specs.Answers.{passing, passed, held}
-use Rattle.fields.specs.declared.Past.{Past}
-use Rattle.fields.proofs.Held.{held-after}
+use Rattle.fields.specs.Fields.{got, stop, after, bigP, many}
 use Rattle.verdicts.specs.Verdicts.{verdictP, verdictsP}
 
 -- rows for two counts of a byte each, and columns for one
@@ -28,8 +25,7 @@ module _ (roots bundle : ℕ) (s : List ℕ) (at : ℕ) where
     unfolding verdictsP
     miscounted d = rw (h, ne-eqb n ((roots + bundle) * bundle) (λ q. d (q ∙ sym a)))
 
-    pub all-read : (p : Past) → n ≡ asked → passed p ≡ passing (many verdictP asked s e)
-        → held p (record { roots = roots; bundle = bundle; first = e }) ≡ verdictsP roots bundle s at
+    pub all-read : n ≡ asked
+        → after (many verdictP asked s e) (λ _ f. got (record { roots = roots; bundle = bundle; first = e }) f) ≡ verdictsP roots bundle s at
     unfolding verdictsP
-    all-read p q t =
-        rw (h, eq-eqb n ((roots + bundle) * bundle) (q ∙ a), q) (held-after p _ (many verdictP asked s e) t)
+    all-read q = rw (h, eq-eqb n ((roots + bundle) * bundle) (q ∙ a), q)

@@ -10,8 +10,8 @@ use fields::count_at;
 use fields::u16_at;
 ghost use mathlib.Core.Path.{_≡_};
 ghost use Prim.Native.Nat.{_+_, _*_, _≤_};
-ghost use Rattle.fields.specs.Fields.{stop, after, many};
-ghost use Rattle.fields.specs.Answers.{number, passed, passing, held};
+ghost use Rattle.fields.specs.Fields.{got, stop, after, many};
+ghost use Rattle.fields.specs.Answers.{number, passed, passing, held, Emptied};
 ghost use Rattle.verdicts.specs.Verdicts.{verdictP, verdictsP, fresh-verdicts, signedAt, rootSigned, bundleSigned};
 
 // Verdicts on so many roots and so large a bundle, from the first one on.
@@ -89,7 +89,7 @@ fn signed_at(verdicts: Verdicts, file: &[u8], row: usize, column: usize) -> bool
     file[at] as usize == Verdicts::YES
 }
 
-// The verdicts and the place past them.
+// The verdicts and the place past them; no verdicts with a fault.
 pub struct VerdictsRead {
     pub past: Past,
     pub verdicts: Verdicts,
@@ -98,20 +98,19 @@ pub struct VerdictsRead {
 // The verdicts where the bundle ends.
 pub fn verdicts_after(file: &[u8], past: Past, roots: u8, bundle: u8) -> VerdictsRead
     ensures { λ r. ⌜ held (r .past) (r .verdicts) ≡ after (passed past) (λ _ at. verdictsP roots bundle (now (file .entry)) at) ⌝ }
+    ensures { λ r. ⌜ Emptied (r .past) (r .verdicts) fresh-verdicts ⌝ }
 {
     match past {
         Past::Got(at) => match u16_at(file, at) {
             NumberAt::Got { value, next } => {
                 let n = Verdicts::asked(roots, bundle);
                 if value == n as u64 {
-                    return VerdictsRead {
-                        past: verdicts_past(file, next, n),
-                        verdicts: Verdicts {
-                            roots,
-                            bundle,
-                            first: next,
-                        },
+                    let verdicts = Verdicts {
+                        roots,
+                        bundle,
+                        first: next,
                     };
+                    return verdict_rows(file, verdicts, n);
                 }
                 return no_verdicts(Fault::BadCount);
             }
@@ -125,11 +124,12 @@ pub fn verdicts_after(file: &[u8], past: Past, roots: u8, bundle: u8) -> Verdict
     }
 }
 
-// The place past n verdicts.
-fn verdicts_past(file: &[u8], first: usize, n: usize) -> Past
-    ensures { λ r. ⌜ passed r ≡ passing (many verdictP n (now (file .entry)) first) ⌝ }
+// n verdicts from the first on.
+fn verdict_rows(file: &[u8], verdicts: Verdicts, n: usize) -> VerdictsRead
+    ensures { λ r. ⌜ held (r .past) (r .verdicts) ≡ after (many verdictP n (now (file .entry)) (verdicts .first)) (λ _ e. got verdicts e) ⌝ }
+    ensures { λ r. ⌜ Emptied (r .past) (r .verdicts) fresh-verdicts ⌝ }
 {
-    let mut at = first;
+    let mut at = verdicts.first;
     let mut left = n;
     while 0 < left {
         match verdict_at(file, at) {
@@ -138,11 +138,14 @@ fn verdicts_past(file: &[u8], first: usize, n: usize) -> Past
                 left -= 1;
             }
             Past::Stop(fault) => {
-                return Past::Stop(fault);
+                return no_verdicts(fault);
             }
         }
     }
-    Past::Got(at)
+    VerdictsRead {
+        past: Past::Got(at),
+        verdicts,
+    }
 }
 
 // A verdict is a bad value above yes, judged when it is read.
@@ -167,6 +170,7 @@ fn verdict_at(file: &[u8], at: usize) -> Past
 
 fn no_verdicts(fault: Fault) -> VerdictsRead
     ensures { λ r. ⌜ held (r .past) (r .verdicts) ≡ stop (number fault) ⌝ }
+    ensures { λ r. ⌜ Emptied (r .past) (r .verdicts) fresh-verdicts ⌝ }
 {
     VerdictsRead {
         past: Past::Stop(fault),

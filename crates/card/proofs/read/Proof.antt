@@ -36,8 +36,8 @@ returns c =
     let r = b .before .before in
     c .settled .ensures
     ∙ ap answer
-    (chained _ (r .before .edition-past .result) _ _ _ _ _ _ _ _ _ (r .before .edition-past .ensures) (r .roots-after .ensures) (b .bundle-after .ensures)
-    (v .verdicts-after .ensures) (t .task-after .ensures) (e .end-after .ensures))
+    (chained _ (r .before .edition-past .result) _ _ _ _ _ _ _ _ _ (r .before .edition-past .ensures) (r .roots-after .ensures .0) (b .bundle-after .ensures .0)
+    (v .verdicts-after .ensures .0) (t .task-after .ensures .0) (e .end-after .ensures))
 
 pub read-spec : {M : Type 1} → statement M
 read-spec =

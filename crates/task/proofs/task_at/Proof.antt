@@ -36,7 +36,7 @@ returns c =
     let times = sym (t .before .before .times-at .ensures) ∙ ap timed (t .now .given .1) in
     let purpose = sym (p .purpose-at .ensures) ∙ ap passed (b .b .given .1) in
     let host = sym (s .string-at .ensures) ∙ ap spanned (c .before .name .given .1) in
-    rw times (sym (after-end (purposeP _ _) _ ∙ rw (purpose, host)))
+    rw times (sym (after-end (purposeP _ _) _ ∙ rw (purpose, host)), tt)
 
 enum-known-fault : tie.Need-enum-known-fault
 enum-known-fault c = search needs
@@ -55,7 +55,7 @@ returns-2 c =
     let times = sym (t .before .before .times-at .ensures) ∙ ap timed (t .now .given .1) in
     let purpose = sym (p .purpose-at .ensures) ∙ ap passed (b .b .given .1) in
     let host = sym (s .string-at .ensures) ∙ ap spanned (f .fault .given .1) in
-    rw times (c .no-task .ensures ∙ sym (after-end (purposeP _ _) _ ∙ rw (purpose, host)))
+    rw times (c .no-task .ensures .0 ∙ sym (after-end (purposeP _ _) _ ∙ rw (purpose, host)), c .no-task .ensures .1)
 
 enum-known-fault-2 : tie.Need-enum-known-fault-2
 enum-known-fault-2 c = search needs
@@ -71,7 +71,7 @@ returns-3 c =
     let t = p .before .before in
     let times = sym (t .before .before .times-at .ensures) ∙ ap timed (t .now .given .1) in
     let purpose = sym (p .purpose-at .ensures) ∙ ap passed (f .fault2 .given .1) in
-    rw times (c .no-task2 .ensures ∙ sym (after-end (purposeP _ _) _ ∙ rw purpose))
+    rw times (c .no-task2 .ensures .0 ∙ sym (after-end (purposeP _ _) _ ∙ rw purpose), c .no-task2 .ensures .1)
 
 enum-known-fault-3 : tie.Need-enum-known-fault-3
 enum-known-fault-3 c = search needs

@@ -18,8 +18,8 @@ enum-known-value c = search needs
 asked-requires : tie.Need-asked-requires
 asked-requires c κs = search needs
 
-verdicts-past-requires : tie.Need-verdicts-past-requires
-verdicts-past-requires c κs = search needs
+verdict-rows-requires : tie.Need-verdict-rows-requires
+verdict-rows-requires c κs = search needs
 
 returns : tie.Need-returns
 returns c =
@@ -28,7 +28,7 @@ returns c =
     let u = v .before .before in
     let b = sym (u .u16-at .ensures) ∙ ap numbered (v .value .given .1) in
     rw (ap passed (u .before .before .past .given .1))
-    (all-read _ _ _ _ _ _ _ b (n .asked .ensures) _ (c .before .if1 .taken) (c .verdicts-past .ensures))
+    (c .verdict-rows .ensures .0 ∙ all-read _ _ _ _ _ _ _ b (n .asked .ensures) (c .before .if1 .taken), c .verdict-rows .ensures .1)
 
 no-verdicts-requires : tie.Need-no-verdicts-requires
 no-verdicts-requires c κs = search needs
@@ -40,7 +40,7 @@ returns-2 c =
     let u = v .before .before in
     let b = sym (u .u16-at .ensures) ∙ ap numbered (v .value .given .1) in
     rw (ap passed (u .before .before .past .given .1))
-    (c .no-verdicts .ensures ∙ sym (miscounted _ _ _ _ _ _ _ b (n .asked .ensures) (c .before .if1 .left)))
+    (c .no-verdicts .ensures .0 ∙ sym (miscounted _ _ _ _ _ _ _ b (n .asked .ensures) (c .before .if1 .left)), c .no-verdicts .ensures .1)
 
 enum-known-fault : tie.Need-enum-known-fault
 enum-known-fault c = search needs
@@ -52,8 +52,10 @@ returns-3 : tie.Need-returns-3
 returns-3 c =
     let f = c .before .before in
     let u = f .before .before in
-    rw (ap passed (u .before .before .past .given .1))
-    (c .no-verdicts2 .ensures ∙ sym (uncounted _ _ _ _ _ (sym (u .u16-at .ensures) ∙ ap numbered (f .fault .given .1))))
+    rw (ap passed (u .before .before .past .given .1)) (
+      c .no-verdicts2 .ensures .0 ∙ sym (uncounted _ _ _ _ _ (sym (u .u16-at .ensures) ∙ ap numbered (f .fault .given .1))),
+      c .no-verdicts2 .ensures .1,
+    )
 
 enum-known-past-2 : tie.Need-enum-known-past-2
 enum-known-past-2 c = search needs
@@ -72,7 +74,7 @@ verdicts-after-spec =
     u16-at-requires
     enum-known-value
     asked-requires
-    verdicts-past-requires
+    verdict-rows-requires
     returns
     no-verdicts-requires
     returns-2

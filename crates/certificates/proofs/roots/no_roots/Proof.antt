@@ -1,7 +1,8 @@
--- `no_roots` answers the fault. Assumes nothing.
+-- `no_roots` answers the fault, and beside it no roots. Assumes nothing.
 use borrow.Author.Needs.{needs}
 use mathlib.Core.Path.{refl}
 use Rattle.fields.specs.Answers.{held}
+use Rattle.certificates.proofs.Nothing.{roots-fresh}
 use Rattle.certificates.proofs.roots.no_roots.Statement.{statement}
 use Rattle.certificates.proofs.roots.no_roots.Tie as tie
 
@@ -10,7 +11,7 @@ new-requires c κs = search needs
 
 returns : tie.Need-returns
 unfolding held
-returns c = refl
+returns c = (refl, roots-fresh _ (c .new .ensures))
 
 pub no-roots-spec : {M : Type 1} → statement M
 no-roots-spec = tie.close (tie.spec new-requires returns)
