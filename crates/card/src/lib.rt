@@ -56,10 +56,11 @@ pub enum Outcome {
     Stop(Fault),
 }
 
-// What reading a file came to; with a fault the card is nothing but zeros.
+// What reading a file came to; with a fault the card is nothing but zeros. The outcome stands last, so that the card is copied whole and
+// aligned.
 pub struct Reading {
-    pub outcome: Outcome,
     pub card: Card,
+    pub outcome: Outcome,
 }
 
 // A file's card, or the first fault from left to right.
@@ -138,14 +139,14 @@ fn settled(end: Past, card: Card) -> Reading
     match end {
         Past::Got(_) => {
             return Reading {
-                outcome: Outcome::Read,
                 card,
+                outcome: Outcome::Read,
             };
         }
         Past::Stop(fault) => {
             return Reading {
-                outcome: Outcome::Stop(fault),
                 card: Card::new(),
+                outcome: Outcome::Stop(fault),
             };
         }
     }

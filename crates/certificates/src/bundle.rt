@@ -16,9 +16,10 @@ ghost use Rattle.record.specs.Fresh.{fresh};
 ghost use Rattle.record.specs.Record.{recordP};
 ghost use Rattle.certificates.specs.Certificates.{filledBundle, bundleP, fresh-bundle, recordOf, sizeOf};
 
+// The count stands last, so that the records are copied whole and aligned.
 pub struct Bundle {
-    pub count: u8,
     pub records: [Record; Bundle::MOST],
+    pub count: u8,
 }
 
 impl Bundle {
@@ -32,8 +33,8 @@ impl Bundle {
     {
         let none = Record::new();
         Bundle {
-            count: 0,
             records: [none; Bundle::MOST],
+            count: 0,
         }
     }
 
@@ -113,8 +114,8 @@ fn bundle_records(file: &[u8], first: usize, n: usize) -> BundleRead
     BundleRead {
         past: Past::Got(at),
         bundle: Bundle {
-            count: n as u8,
             records,
+            count: n as u8,
         },
     }
 }

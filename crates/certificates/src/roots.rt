@@ -16,9 +16,10 @@ ghost use Rattle.record.specs.Fresh.{fresh};
 ghost use Rattle.record.specs.Record.{recordP};
 ghost use Rattle.certificates.specs.Certificates.{filledRoots, rootsP, fresh-roots, recordOf, sizeOf};
 
+// The count stands last, so that the records are copied whole and aligned.
 pub struct Roots {
-    pub count: u8,
     pub records: [Record; Roots::MOST],
+    pub count: u8,
 }
 
 impl Roots {
@@ -32,8 +33,8 @@ impl Roots {
     {
         let none = Record::new();
         Roots {
-            count: 0,
             records: [none; Roots::MOST],
+            count: 0,
         }
     }
 
@@ -113,8 +114,8 @@ fn root_records(file: &[u8], first: usize, n: usize) -> RootsRead
     RootsRead {
         past: Past::Got(at),
         roots: Roots {
-            count: n as u8,
             records,
+            count: n as u8,
         },
     }
 }

@@ -62,8 +62,8 @@ returns c =
     let stops = filling-stops _ _ _ _ _ _ _ _ _ (a .before .before .loop .inv) _ (a .before .loop-test .taken) q in
     (c .no-bundle .ensures .0 ∙ sym (ap filledBundle stops), c .no-bundle .ensures .1)
 
-cast-t17 : tie.Need-cast-t17 Inv-loop μ-loop
-cast-t17 c = search needs
+cast-t18 : tie.Need-cast-t18 Inv-loop μ-loop
+cast-t18 c = search needs
 
 returns-2 : tie.Need-returns-2 Inv-loop μ-loop
 unfolding held
@@ -88,5 +88,5 @@ bundle-records-spec =
     enum-known-fault
     no-bundle-requires
     returns
-    cast-t17
+    cast-t18
     returns-2)

@@ -22,7 +22,7 @@ new-requires-2 c κs = search needs
 returns-2 : tie.Need-returns-2
 returns-2 c =
     let e = c .before .before .before in
-    let long = simp length-map at (e .before .before .good .0 .1 .1 .1 .0 .1 .0 .1) in
+    let long = simp length-map at (e .before .before .good .0 .1 .1 .0 .1 .0 .1) in
     c .new2 .ensures ∙ record-outside _ _ _ _ long (e .if1 .left) (c .before .if2 .taken)
 
 mul-result : tie.Need-mul-result
