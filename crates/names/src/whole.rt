@@ -19,9 +19,11 @@ pub fn whole_attribute(s: &[u8]) -> Past
             if a.value.end < s.len() {
                 return Past::Stop(Fault::LeftOver);
             }
-            Past::Got(a.value.end)
+            return Past::Got(a.value.end);
         }
-        AttributeAt::Stop(fault) => Past::Stop(fault),
+        AttributeAt::Stop(fault) => {
+            return Past::Stop(fault);
+        }
     }
 }
 
@@ -34,9 +36,11 @@ pub fn whole_rdn(s: &[u8]) -> Past
             if end < s.len() {
                 return Past::Stop(Fault::LeftOver);
             }
-            Past::Got(end)
+            return Past::Got(end);
         }
-        Past::Stop(fault) => Past::Stop(fault),
+        Past::Stop(fault) => {
+            return Past::Stop(fault);
+        }
     }
 }
 
@@ -49,8 +53,10 @@ pub fn whole_name(s: &[u8]) -> Past
             if end < s.len() {
                 return Past::Stop(Fault::LeftOver);
             }
-            Past::Got(end)
+            return Past::Got(end);
         }
-        Past::Stop(fault) => Past::Stop(fault),
+        Past::Stop(fault) => {
+            return Past::Stop(fault);
+        }
     }
 }

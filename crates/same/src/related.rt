@@ -28,8 +28,12 @@ impl Related {
         ensures { λ r. ⌜ said r ≡ came walk ⌝ }
     {
         match walk {
-            Walk::On { left: _, right: _ } => Related::Yes,
-            Walk::Differ => Related::No,
+            Walk::On { left: _, right: _ } => {
+                return Related::Yes;
+            }
+            Walk::Differ => {
+                return Related::No;
+            }
         }
     }
 }

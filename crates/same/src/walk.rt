@@ -33,8 +33,12 @@ pub fn same_names(file: &[u8], a: usize, b: usize, normalise: bool) -> bool
     ensures { λ r. ⌜ r ≡ bothSame (sameDn normalise) (nameP (now (file .entry)) a) (nameP (now (file .entry)) b) ⌝ }
 {
     match dn_walk(file, a, file, b, normalise) {
-        Walk::On { left: _, right: _ } => true,
-        Walk::Differ => false,
+        Walk::On { left: _, right: _ } => {
+            return true;
+        }
+        Walk::Differ => {
+            return false;
+        }
     }
 }
 
@@ -42,19 +46,16 @@ pub fn same_names(file: &[u8], a: usize, b: usize, normalise: bool) -> bool
 pub(crate) fn dn_walk(s: &[u8], at: usize, t: &[u8], bt: usize, normalise: bool) -> Walk
     ensures { λ r. ⌜ r ≡ walk (sameDn normalise) (nameP (now (s .entry)) at) (nameP (now (t .entry)) bt) ⌝ }
 {
-    match name_begins(s, at) {
-        NameAt::Got(left) => match name_begins(t, bt) {
-            NameAt::Got(right) => {
-                if left.count == right.count {
-                    rdns_walk(s, left.first, t, right.first, left.count, normalise)
-                } else {
-                    Walk::Differ
-                }
-            }
-            NameAt::Stop(_) => Walk::Differ,
-        },
-        NameAt::Stop(_) => Walk::Differ,
+    let NameAt::Got(left) = name_begins(s, at) else {
+        return Walk::Differ;
+    };
+    let NameAt::Got(right) = name_begins(t, bt) else {
+        return Walk::Differ;
+    };
+    if left.count == right.count {
+        return rdns_walk(s, left.first, t, right.first, left.count, normalise);
     }
+    Walk::Differ
 }
 
 // n RDNs from each of two places on.
@@ -83,19 +84,16 @@ fn rdns_walk(s: &[u8], at: usize, t: &[u8], bt: usize, n: usize, normalise: bool
 pub(crate) fn rdn_walk(s: &[u8], at: usize, t: &[u8], bt: usize, normalise: bool) -> Walk
     ensures { λ r. ⌜ r ≡ walk (sameRdn normalise) (rdnP (now (s .entry)) at) (rdnP (now (t .entry)) bt) ⌝ }
 {
-    match rdn_begins(s, at) {
-        RdnAt::Got(a) => match rdn_begins(t, bt) {
-            RdnAt::Got(b) => {
-                if a.count == b.count {
-                    attrs_walk(s, a.first, t, b.first, a.count, normalise)
-                } else {
-                    Walk::Differ
-                }
-            }
-            RdnAt::Stop(_) => Walk::Differ,
-        },
-        RdnAt::Stop(_) => Walk::Differ,
+    let RdnAt::Got(a) = rdn_begins(s, at) else {
+        return Walk::Differ;
+    };
+    let RdnAt::Got(b) = rdn_begins(t, bt) else {
+        return Walk::Differ;
+    };
+    if a.count == b.count {
+        return attrs_walk(s, a.first, t, b.first, a.count, normalise);
     }
+    Walk::Differ
 }
 
 // n attributes from each of two places on.
@@ -124,22 +122,19 @@ fn attrs_walk(s: &[u8], at: usize, t: &[u8], bt: usize, n: usize, normalise: boo
 pub fn attr_walk(s: &[u8], at: usize, t: &[u8], bt: usize, normalise: bool) -> Walk
     ensures { λ r. ⌜ r ≡ walk (sameAttr normalise) (attrP (now (s .entry)) at) (attrP (now (t .entry)) bt) ⌝ }
 {
-    match attribute_at(s, at) {
-        AttributeAt::Got(a) => match attribute_at(t, bt) {
-            AttributeAt::Got(b) => {
-                if same_attribute(s, a, t, b, normalise) {
-                    Walk::On {
-                        left: a.value.end,
-                        right: b.value.end,
-                    }
-                } else {
-                    Walk::Differ
-                }
-            }
-            AttributeAt::Stop(_) => Walk::Differ,
-        },
-        AttributeAt::Stop(_) => Walk::Differ,
+    let AttributeAt::Got(a) = attribute_at(s, at) else {
+        return Walk::Differ;
+    };
+    let AttributeAt::Got(b) = attribute_at(t, bt) else {
+        return Walk::Differ;
+    };
+    if same_attribute(s, a, t, b, normalise) {
+        return Walk::On {
+            left: a.value.end,
+            right: b.value.end,
+        };
     }
+    Walk::Differ
 }
 
 // Whether two attributes that were read are the same. Equal values are not normalised, since their normal forms are equal too.
@@ -167,12 +162,12 @@ fn same_normal(a: &[u8], b: &[u8]) -> bool
     ensures { λ r. ⌜ r ≡ same (normal (now (a .entry))) (normal (now (b .entry))) ⌝ }
 {
     let mut x = [0u8; Attribute::VALUE_MOST];
+    let Normalized::Length(n) = normalize_string(a, &mut x) else {
+        return false;
+    };
     let mut y = [0u8; Attribute::VALUE_MOST];
-    match normalize_string(a, &mut x) {
-        Normalized::Length(n) => match normalize_string(b, &mut y) {
-            Normalized::Length(m) => equal(&x[..n], &y[..m]),
-            Normalized::NoRoom => false,
-        },
-        Normalized::NoRoom => false,
-    }
+    let Normalized::Length(m) = normalize_string(b, &mut y) else {
+        return false;
+    };
+    equal(&x[..n], &y[..m])
 }

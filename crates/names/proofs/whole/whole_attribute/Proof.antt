@@ -18,13 +18,13 @@ returns c =
     let a = c .before .before .before in
     sym (left-over _ _ _ (ap passing (attr-read _ _ _ (a .before .before .attribute-at .ensures) _ (a .a .given .1) .is)) (c .if1 .taken))
 
-enum-known-fault : tie.Need-enum-known-fault
-enum-known-fault c = search needs
-
 returns-2 : tie.Need-returns-2
 returns-2 c =
     let a = c .before .before .before in
     sym (fills _ _ _ (ap passing (attr-read _ _ _ (a .before .before .attribute-at .ensures) _ (a .a .given .1) .is)) (c .if1 .left))
+
+enum-known-fault : tie.Need-enum-known-fault
+enum-known-fault c = search needs
 
 returns-3 : tie.Need-returns-3
 returns-3 c =
@@ -33,4 +33,4 @@ returns-3 c =
 pub whole-attribute-spec : {M : Type 1} → statement M
 whole-attribute-spec =
     tie.close
-    (tie.spec attribute-at-requires enum-known-a returns enum-known-fault returns-2 returns-3)
+    (tie.spec attribute-at-requires enum-known-a returns returns-2 enum-known-fault returns-3)

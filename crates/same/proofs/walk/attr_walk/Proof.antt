@@ -27,38 +27,38 @@ attribute-at-requires c κs = search needs
 enum-known-a : tie.Need-enum-known-a
 enum-known-a c = search needs
 
+enum-told : tie.Need-enum-told
+enum-told c = search needs
+
+returns : tie.Need-returns
+returns c = rw (attr-stops _ _ _ (c .before .before .attribute-at .ensures) _ (c .enum-told .given .1))
+
 attribute-at-requires-2 : tie.Need-attribute-at-requires-2
 attribute-at-requires-2 c κs = search needs
 
 enum-known-b : tie.Need-enum-known-b
 enum-known-b c = search needs
 
-same-attribute-requires : tie.Need-same-attribute-requires
-same-attribute-requires c κs = (left (c .before .before .before .before .before) .short, right (c .before) .short)
-
-enum-told : tie.Need-enum-told
-enum-told c = search needs
-
 enum-told-2 : tie.Need-enum-told-2
 enum-told-2 c = search needs
 
-returns : tie.Need-returns
-returns c =
-    let b = c .before .before .before in
-    rw (left (b .before .before .before .before) .is, right b .is, sym (c .before .same-attribute .ensures) ∙ c .if1 .taken)
-
 returns-2 : tie.Need-returns-2
 returns-2 c =
-    let b = c .before .before .before in
-    rw (left (b .before .before .before .before) .is, right b .is, sym (c .before .same-attribute .ensures) ∙ c .if1 .left)
+    let y = c .before .before in
+    rw (left (y .before .before) .is, attr-stops _ _ _ (y .attribute-at2 .ensures) _ (c .enum-told2 .given .1))
+
+same-attribute-requires : tie.Need-same-attribute-requires
+same-attribute-requires c κs = (left (c .before .before .before .before .before) .short, right (c .before) .short)
 
 returns-3 : tie.Need-returns-3
 returns-3 c =
-    let y = c .before .before in
-    rw (left (y .before .before) .is, attr-stops _ _ _ (y .attribute-at2 .ensures) _ (c .enum-told .given .1))
+    let b = c .before .before .before in
+    rw (left (b .before .before .before .before) .is, right b .is, sym (c .before .same-attribute .ensures) ∙ c .if1 .taken)
 
 returns-4 : tie.Need-returns-4
-returns-4 c = rw (attr-stops _ _ _ (c .before .before .attribute-at .ensures) _ (c .enum-told2 .given .1))
+returns-4 c =
+    let b = c .before .before .before in
+    rw (left (b .before .before .before .before) .is, right b .is, sym (c .before .same-attribute .ensures) ∙ c .if1 .left)
 
 pub attr-walk-spec : {M : Type 1} → statement M
 attr-walk-spec =
@@ -66,12 +66,12 @@ attr-walk-spec =
     (tie.spec
     attribute-at-requires
     enum-known-a
+    enum-told
+    returns
     attribute-at-requires-2
     enum-known-b
-    same-attribute-requires
-    enum-told
     enum-told-2
-    returns
     returns-2
+    same-attribute-requires
     returns-3
     returns-4)

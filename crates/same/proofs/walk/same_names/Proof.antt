@@ -13,14 +13,14 @@ dn-walk-requires c κs = search needs
 enum-told : tie.Need-enum-told
 enum-told c = search needs
 
-enum-told-2 : tie.Need-enum-told-2
-enum-told-2 c = search needs
-
 returns : tie.Need-returns
 returns c = ap through (sym (c .enum-told .given .1) ∙ c .before .before .dn-walk .ensures) ∙ walk-both (sameDn _) (nameP _ _) (nameP _ _)
+
+enum-told-2 : tie.Need-enum-told-2
+enum-told-2 c = search needs
 
 returns-2 : tie.Need-returns-2
 returns-2 c = ap through (sym (c .enum-told2 .given .1) ∙ c .before .before .dn-walk .ensures) ∙ walk-both (sameDn _) (nameP _ _) (nameP _ _)
 
 pub same-names-spec : {M : Type 1} → statement M
-same-names-spec = tie.close (tie.spec dn-walk-requires enum-told enum-told-2 returns returns-2)
+same-names-spec = tie.close (tie.spec dn-walk-requires enum-told returns enum-told-2 returns-2)

@@ -16,6 +16,14 @@ normalize-string-requires c κs = search needs
 enum-known-n : tie.Need-enum-known-n
 enum-known-n c = search needs
 
+enum-told : tie.Need-enum-told
+enum-told c = search needs
+
+returns : tie.Need-returns
+returns c =
+    let x = c .before .before .before in
+    absurd (roomy _ _ _ (x .normalize-string .ensures .0) (x .before .before .before .before .pre .0) (c .enum-told .given .1))
+
 slice-aggregate-normalize-string-2 : tie.Need-slice-aggregate-normalize-string-2
 slice-aggregate-normalize-string-2 c = search needs
 
@@ -24,6 +32,14 @@ normalize-string-requires-2 c κs = search needs
 
 enum-known-m : tie.Need-enum-known-m
 enum-known-m c = search needs
+
+enum-told-2 : tie.Need-enum-told-2
+enum-told-2 c = search needs
+
+returns-2 : tie.Need-returns-2
+returns-2 c =
+    let y = c .before .before .before in
+    absurd (roomy _ _ _ (y .normalize-string2 .ensures .0) (y .before .before .before .before .before .before .before .before .before .before .pre .1) (c .enum-told2 .given .1))
 
 array-share-prefix-x : tie.Need-array-share-prefix-x
 array-share-prefix-x c =
@@ -46,29 +62,13 @@ slice-aggregate-equal-2 c = simp length-take (omega (arith, array-share-prefix-y
 equal-requires : tie.Need-equal-requires
 equal-requires c κs = search needs
 
-enum-told : tie.Need-enum-told
-enum-told c = search needs
-
-enum-told-2 : tie.Need-enum-told-2
-enum-told-2 c = search needs
-
-returns : tie.Need-returns
-returns c =
+returns-3 : tie.Need-returns-3
+returns-3 c =
     let m = c .before .before .before .before in
     let y = m .before .before .before .normalize-string2 .ensures in
     let n = m .before .before .before .before .before .before in
     let x = n .before .before .before .normalize-string .ensures in
     c .equal .ensures ∙ rw (told _ _ _ _ _ (x .0) (x .1) (n .n .given .1) .whole, told _ _ _ _ _ (y .0) (y .1) (m .m .given .1) .whole)
-
-returns-2 : tie.Need-returns-2
-returns-2 c =
-    let y = c .before .before .before in
-    absurd (roomy _ _ _ (y .normalize-string2 .ensures .0) (y .before .before .before .before .before .before .before .before .before .before .pre .1) (c .enum-told .given .1))
-
-returns-3 : tie.Need-returns-3
-returns-3 c =
-    let x = c .before .before .before in
-    absurd (roomy _ _ _ (x .normalize-string .ensures .0) (x .before .before .before .before .pre .0) (c .enum-told2 .given .1))
 
 pub same-normal-spec : {M : Type 1} → statement M
 same-normal-spec =
@@ -77,16 +77,16 @@ same-normal-spec =
     slice-aggregate-normalize-string
     normalize-string-requires
     enum-known-n
+    enum-told
+    returns
     slice-aggregate-normalize-string-2
     normalize-string-requires-2
     enum-known-m
+    enum-told-2
+    returns-2
     array-share-prefix-x
     slice-aggregate-equal
     array-share-prefix-y
     slice-aggregate-equal-2
     equal-requires
-    enum-told
-    enum-told-2
-    returns
-    returns-2
     returns-3)
