@@ -8,8 +8,9 @@ use mathlib.Core.List.{List}
 use native.Mathlib.Nat.{div-one}
 use lib.Dec.{eqb}
 use Rattle.fields.specs.Fields.{bytesOf}
-use Rattle.names.specs.Names.{nameP, sameDn}
-use Rattle.names.specs.Answers.{bothSame}
+use Rattle.names.specs.Names.{nameP}
+use Rattle.same.specs.Same.{sameDn}
+use Rattle.same.specs.Answers.{bothSame}
 use Rattle.keys.specs.AuthKeyId.{given, checkAuthKeyId}
 use Rattle.extensions.specs.Extensions.{flag}
 use Rattle.record.specs.Certificate.{certificateOf, present}

@@ -1,7 +1,7 @@
 -- Who issued whom (docs/CARD-FILE.md, "Who issued whom"). Assumes nothing.
 use Prim.Native.Nat.{ℕ}
 use mathlib.Core.Bool.{Bool, true, _&&_}
-use Rattle.names.specs.Names.{sameDn}
+use Rattle.same.specs.Same.{sameDn}
 use Rattle.keys.specs.AuthKeyId.{checkAuthKeyId}
 use Rattle.record.specs.Certificate.{Certificate}
 use Rattle.card.specs.Content.{Content, Issuer, bundled, certificateAt, signed}

@@ -2,8 +2,9 @@
 use Prim.Native.Nat.{ℕ}
 use mathlib.Core.Bool.{Bool, true, _&&_}
 use mathlib.Core.List.{List}
-use Rattle.names.specs.Names.{nameP, sameDn}
-use Rattle.names.specs.Answers.{bothSame}
+use Rattle.names.specs.Names.{nameP}
+use Rattle.same.specs.Same.{sameDn}
+use Rattle.same.specs.Answers.{bothSame}
 use Rattle.record.specs.Certificate.{certificateOf}
 use Rattle.record.specs.declared.Record.{Record}
 use Rattle.certificates.specs.Certificates.{recordOf, sizeOf}

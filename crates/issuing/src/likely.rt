@@ -1,8 +1,8 @@
 // Likely issued: the names fit and the key identifiers do.
 use fields::part;
 use keys::check_auth_key_id;
-use names::same_names;
 use record::Record;
+use same::same_names;
 ghost use mathlib.Core.Path.{_≡_};
 ghost use Rattle.record.specs.Certificate.{certificateOf};
 ghost use Rattle.issuing.specs.Issued.{keysFit};

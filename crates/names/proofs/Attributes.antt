@@ -9,8 +9,7 @@ use Rattle.fields.specs.declared.fault.Fault.{Fault}
 use Rattle.fields.specs.declared.string.Span.{Span}
 use Rattle.fields.proofs.Strings.{span-read, string-got, string-stops}
 use Rattle.names.specs.Names.{attrP}
-use Rattle.names.specs.Answers.{spansP, attributed}
-use Rattle.names.specs.Walks.{attrOf, Short}
+use Rattle.names.specs.Answers.{spansP, attributed, attrOf, Short}
 use Rattle.names.specs.declared.read.Attribute.{Attribute}
 use Rattle.names.specs.declared.read.AttributeAt.{AttributeAt}
 use Rattle.names.specs.declared.read.AttributeAt.the-variants.{Got, Stop}

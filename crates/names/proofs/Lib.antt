@@ -1,7 +1,3 @@
 pub mod Attributes
-pub mod Compared
-pub mod Frauds
+pub mod Judged
 pub mod Pinned
-pub mod Upstream
-pub mod Walks
-pub mod Whole

@@ -1,13 +1,9 @@
--- No two answers say the same: what a relation of two names, or a reader of this crate, says pins its answer down.
--- Assumes nothing.
+-- No two answers say the same: what a reader of this crate says pins its answer down. Assumes nothing.
 use Prim.Native.Nat.{ℕ}
 use mathlib.Core.Path.{_≡_, refl, ap}
-use mathlib.Core.Bool.{cond}
-use lib.Dec.{eqb}
 use Rattle.fields.specs.Fields.{Parsed, got, stop}
-use Rattle.fields.specs.declared.fault.Fault.the-variants.{UnknownEdition, TooLong, CutShort, BadCount, BadValue, LeftOver}
 use Rattle.fields.proofs.Pinned.{pins, faultOf, fault-again}
-use Rattle.names.specs.Answers.{attributed, rdnBegun, nameBegun, said}
+use Rattle.names.specs.Answers.{attributed, rdnBegun, nameBegun}
 use Rattle.names.specs.declared.read.Attribute.{Attribute}
 use Rattle.names.specs.declared.read.AttributeAt.{AttributeAt}
 use Rattle.names.specs.declared.read.AttributeAt.the-variants as attribute
@@ -15,24 +11,6 @@ use Rattle.names.specs.declared.read.RdnAt.{RdnAt}
 use Rattle.names.specs.declared.read.RdnAt.the-variants as rdn
 use Rattle.names.specs.declared.read.NameAt.{NameAt}
 use Rattle.names.specs.declared.read.NameAt.the-variants as name
-use Rattle.names.specs.declared.related.Related.{Related}
-use Rattle.names.specs.declared.related.Related.the-variants.{No, Yes, Stop}
-
-pub said-pins : (a b : Related) → said a ≡ said b → a ≡ b
-said-pins = pins said back again
-  where
-    back : ℕ → Related
-    back n = cond (eqb n 0) No (cond (eqb n 1) Yes (Stop (faultOf n)))
-
-    again : (a : Related) → back (said a) ≡ a
-    again No = refl
-    again Yes = refl
-    again (Stop UnknownEdition) = refl
-    again (Stop TooLong) = refl
-    again (Stop CutShort) = refl
-    again (Stop BadCount) = refl
-    again (Stop BadValue) = refl
-    again (Stop LeftOver) = refl
 
 pub attributed-pins : (a b : AttributeAt) → attributed a ≡ attributed b → a ≡ b
 attributed-pins = pins attributed back again

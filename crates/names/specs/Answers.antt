@@ -1,9 +1,10 @@
--- What each case of an answer stands for, and what a relation of two encoded arguments answers. Assumes nothing.
-use Prim.Native.Nat.{ℕ}
-use mathlib.Core.Bool.{Bool, false, cond}
+-- What each case of an answer stands for, and what stands at the places that it tells. Assumes nothing.
+use Prim.Native.Nat.{ℕ, _≤_}
 use mathlib.Core.List.{List}
-use Rattle.fields.specs.Fields.{Parsed, got, stop, after, spanP}
+use lib.ListN.{length}
+use Rattle.fields.specs.Fields.{Parsed, got, stop, after, spanP, bytesOf}
 use Rattle.fields.specs.Answers.{number}
+use Rattle.names.specs.Names.{Attr}
 use Rattle.names.specs.declared.read.Attribute.{Attribute}
 use Rattle.names.specs.declared.read.AttributeAt.{AttributeAt}
 use Rattle.names.specs.declared.read.AttributeAt.the-variants as attribute
@@ -11,10 +12,6 @@ use Rattle.names.specs.declared.read.RdnAt.{RdnAt}
 use Rattle.names.specs.declared.read.RdnAt.the-variants as rdn
 use Rattle.names.specs.declared.read.NameAt.{NameAt}
 use Rattle.names.specs.declared.read.NameAt.the-variants as name
-use Rattle.names.specs.declared.same.Walk.{Walk}
-use Rattle.names.specs.declared.same.Walk.the-variants.{On, Differ}
-use Rattle.names.specs.declared.related.Related.{Related}
-use Rattle.names.specs.declared.related.Related.the-variants.{No, Yes, Stop}
 
 -- the places of an attribute's OID and value, by their limits
 unfoldable pub spansP : ℕ → ℕ → ℕ → ℕ → List ℕ → ℕ → Parsed Attribute
@@ -36,25 +33,10 @@ abbrev pub nameBegun : NameAt → Parsed ℕ
 nameBegun (name.Got a) = got (a .count) (a .first)
 nameBegun (name.Stop f) = stop (number f)
 
--- yes is 1, no is 0, else the number of the fault
-abbrev pub said : Related → ℕ
-said No = 0
-said Yes = 1
-said (Stop f) = number f
+-- the attribute that stands at the places of one that was read
+abbrev pub attrOf : Attribute → List ℕ → Attr
+attrOf a s = record { oid = bytesOf (a .oid) s; value = bytesOf (a .value) s }
 
--- the first argument is judged through before the second is looked at, then they are related
-abbrev pub asked : {A B : Type 0} → (A → B → Bool) → Parsed A → Parsed B → ℕ
-asked q (stop r) b = r
-asked q (got x e) (stop r) = r
-asked q (got x e) (got y f) = cond (q x y) 1 0
-
--- two names of a file are the same: no where either place has no name
-abbrev pub bothSame : {A : Type 0} → (A → A → Bool) → Parsed A → Parsed A → Bool
-bothSame q (stop r) b = false
-bothSame q (got x e) (stop r) = false
-bothSame q (got x e) (got y f) = q x y
-
--- a walk that came through is a yes
-abbrev pub came : Walk → ℕ
-came (On e f) = 1
-came Differ = 0
+-- its value is no longer than a value may be
+abbrev pub Short : Attribute → List ℕ → Type 0
+Short a s = length (bytesOf (a .value) s) ≤ 255

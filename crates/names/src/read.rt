@@ -1,4 +1,4 @@
-// Attributes, RDNs and names read from left to right.
+// Attributes, RDNs and names read from left to right. Each arm of a match returns, so that nothing is copied out of it.
 use fields::CountAt;
 use fields::Fault;
 use fields::Past;
@@ -76,15 +76,23 @@ pub fn attribute_at(file: &[u8], at: usize) -> AttributeAt
       value-most ← ⟦Attribute::VALUE_MOST⟧ .entry
       ⌜ attributed r ≡ spansP oid-least oid-most value-least value-most (now (file .entry)) at ⌝ }
 {
-    let oid = match string_at(file, at, Attribute::OID_LEAST, Attribute::OID_MOST) {
-        StringAt::Got(span) => span,
+    match string_at(file, at, Attribute::OID_LEAST, Attribute::OID_MOST) {
+        StringAt::Got(oid) => match string_at(
+            file,
+            oid.end,
+            Attribute::VALUE_LEAST,
+            Attribute::VALUE_MOST,
+        ) {
+            StringAt::Got(value) => {
+                return AttributeAt::Got(Attribute { oid, value });
+            }
+            StringAt::Stop(fault) => {
+                return AttributeAt::Stop(fault);
+            }
+        },
         StringAt::Stop(fault) => {
             return AttributeAt::Stop(fault);
         }
-    };
-    match string_at(file, oid.end, Attribute::VALUE_LEAST, Attribute::VALUE_MOST) {
-        StringAt::Got(value) => AttributeAt::Got(Attribute { oid, value }),
-        StringAt::Stop(fault) => AttributeAt::Stop(fault),
     }
 }
 
@@ -93,8 +101,12 @@ pub fn rdn_begins(file: &[u8], at: usize) -> RdnAt
     ensures { λ r. do ⌜ rdnBegun r ≡ countP (← ⟦Rdn::LEAST⟧ .entry) (← ⟦Rdn::MOST⟧ .entry) (now (file .entry)) at ⌝ }
 {
     match count_at(file, at, Rdn::LEAST, Rdn::MOST) {
-        CountAt::Got { count, next } => RdnAt::Got(Rdn { count, first: next }),
-        CountAt::Stop(fault) => RdnAt::Stop(fault),
+        CountAt::Got { count, next } => {
+            return RdnAt::Got(Rdn { count, first: next });
+        }
+        CountAt::Stop(fault) => {
+            return RdnAt::Stop(fault);
+        }
     }
 }
 
@@ -103,8 +115,12 @@ pub fn name_begins(file: &[u8], at: usize) -> NameAt
     ensures { λ r. do ⌜ nameBegun r ≡ countP (← ⟦Name::LEAST⟧ .entry) (← ⟦Name::MOST⟧ .entry) (now (file .entry)) at ⌝ }
 {
     match count_at(file, at, Name::LEAST, Name::MOST) {
-        CountAt::Got { count, next } => NameAt::Got(Name { count, first: next }),
-        CountAt::Stop(fault) => NameAt::Stop(fault),
+        CountAt::Got { count, next } => {
+            return NameAt::Got(Name { count, first: next });
+        }
+        CountAt::Stop(fault) => {
+            return NameAt::Stop(fault);
+        }
     }
 }
 
@@ -113,8 +129,12 @@ pub fn rdn_at(file: &[u8], at: usize) -> Past
     ensures { λ r. ⌜ passed r ≡ passing (rdnP (now (file .entry)) at) ⌝ }
 {
     match rdn_begins(file, at) {
-        RdnAt::Got(rdn) => attributes_at(file, rdn.first, rdn.count),
-        RdnAt::Stop(fault) => Past::Stop(fault),
+        RdnAt::Got(rdn) => {
+            return attributes_at(file, rdn.first, rdn.count);
+        }
+        RdnAt::Stop(fault) => {
+            return Past::Stop(fault);
+        }
     }
 }
 
@@ -123,8 +143,12 @@ pub fn name_at(file: &[u8], at: usize) -> Past
     ensures { λ r. ⌜ passed r ≡ passing (nameP (now (file .entry)) at) ⌝ }
 {
     match name_begins(file, at) {
-        NameAt::Got(name) => rdns_at(file, name.first, name.count),
-        NameAt::Stop(fault) => Past::Stop(fault),
+        NameAt::Got(name) => {
+            return rdns_at(file, name.first, name.count);
+        }
+        NameAt::Stop(fault) => {
+            return Past::Stop(fault);
+        }
     }
 }
 

@@ -6,8 +6,8 @@ use mathlib.Core.List.{List}
 use native.Mathlib.Omega.{arith}
 use Rattle.fields.specs.Fields.{Parsed, got, stop, countP, countedP, whole}
 use Rattle.names.specs.Names.{attrP, rdnP}
-use Rattle.names.specs.Answers.{asked, bothSame}
-use Rattle.names.proofs.Whole.{Holds}
+use Rattle.names.proofs.Judged.{Holds}
+use Rattle.same.specs.Answers.{asked, bothSame}
 use Rattle.subtree.specs.Subtree.{rdnHasName}
 use Rattle.subtree.specs.Rows.{Fine, standing, hasRead}
 use Rattle.subtree.proofs.Rows.{row-read}

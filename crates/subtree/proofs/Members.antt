@@ -6,9 +6,10 @@ use mathlib.Core.Bool.{Bool, true, false, cond}
 use mathlib.Core.List.{List, [], _∷_}
 use native.Mathlib.Omega.{arith}
 use Rattle.fields.specs.Fields.{Parsed, got, stop}
-use Rattle.names.specs.Names.{Attr, attrP, sameAttr}
-use Rattle.names.specs.Walks.{walk}
-use Rattle.names.specs.declared.same.Walk.the-variants.{On, Differ}
+use Rattle.names.specs.Names.{Attr, attrP}
+use Rattle.same.specs.Same.{sameAttr}
+use Rattle.same.specs.Walks.{walk}
+use Rattle.same.specs.declared.walk.Walk.the-variants.{On, Differ}
 use Rattle.subtree.specs.Subtree.{someOf, rdnHasName}
 use Rattle.subtree.specs.Rows.{with-rest, standing, hasRead}
 use Rattle.subtree.proofs.Standing.{standing-none, standing-some}

@@ -12,9 +12,10 @@ use borrow.Author.Tests.{le-leb, lt-leb}
 use Rattle.fields.specs.Fields.{Parsed, got, stop, countP, many, countedP}
 use Rattle.fields.specs.Answers.{passing}
 use Rattle.fields.proofs.Many.{many-length, many-prefix}
-use Rattle.names.specs.Names.{attrP, rdnP, nameP, places}
+use Rattle.names.specs.Names.{attrP, rdnP, nameP}
 use Rattle.names.specs.Answers.{rdnBegun, nameBegun}
-use Rattle.names.specs.Walks.{walk}
+use Rattle.same.specs.Same.{places}
+use Rattle.same.specs.Walks.{walk}
 use Rattle.subtree.specs.Rows.{Fine, standing}
 use Rattle.names.specs.declared.read.Rdn.{Rdn}
 use Rattle.names.specs.declared.read.RdnAt.{RdnAt}
@@ -22,9 +23,9 @@ use Rattle.names.specs.declared.read.RdnAt.the-variants as rdn
 use Rattle.names.specs.declared.read.Name.{Name}
 use Rattle.names.specs.declared.read.NameAt.{NameAt}
 use Rattle.names.specs.declared.read.NameAt.the-variants as name
-use Rattle.names.specs.declared.same.Walk.the-variants.{On, Differ}
+use Rattle.same.specs.declared.walk.Walk.the-variants.{On, Differ}
 use Rattle.subtree.proofs.Standing.{standing-whole}
-use Rattle.names.proofs.Walks.{through, walk-both}
+use Rattle.same.proofs.Walks.{through, walk-both}
 
 -- ---- what the place past a thing tells of the thing
 

@@ -4,7 +4,8 @@ use mathlib.Core.Bool.{Bool, true, false, _&&_, _||_}
 use mathlib.Core.List.{List, [], _∷_}
 use lib.ListN.{length}
 use lib.Dec.{leb}
-use Rattle.names.specs.Names.{Attr, places, sameAttr}
+use Rattle.names.specs.Names.{Attr}
+use Rattle.same.specs.Same.{places, sameAttr}
 
 -- q holds of some element; of every element
 unfoldable pub someOf : {A : Type 0} → (A → Bool) → List A → Bool

@@ -5,15 +5,15 @@ use crate::under::subtree;
 use crate::under::subtree_rdn_walk;
 use fields::Past;
 use names::RdnAt;
-use names::Related;
 use names::rdn_begins;
 use names::whole_attribute;
 use names::whole_name;
 use names::whole_rdn;
+use same::Related;
 ghost use mathlib.Core.Path.{_≡_};
 ghost use Rattle.fields.specs.Fields.{whole};
 ghost use Rattle.names.specs.Names.{attrP, rdnP, nameP};
-ghost use Rattle.names.specs.Answers.{said, asked};
+ghost use Rattle.same.specs.Answers.{said, asked};
 ghost use Rattle.subtree.specs.Subtree.{rdnHasName, isSubtreeRdn, isSubtreeOf};
 
 // Whether some attribute of an RDN is the same as this one.

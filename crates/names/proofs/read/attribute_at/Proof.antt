@@ -9,15 +9,8 @@ use Rattle.names.proofs.read.attribute_at.Tie as tie
 string-at-requires : tie.Need-string-at-requires
 string-at-requires c κs = search needs
 
-enum-known-span : tie.Need-enum-known-span
-enum-known-span c = search needs
-
-enum-known-fault : tie.Need-enum-known-fault
-enum-known-fault c = search needs
-
-returns : tie.Need-returns
-unfolding spansP
-returns c = rw (sym (c .before .before .before .string-at .ensures) ∙ ap spanned (c .before .fault .given .1))
+enum-known-oid : tie.Need-enum-known-oid
+enum-known-oid c = search needs
 
 string-at-requires-2 : tie.Need-string-at-requires-2
 string-at-requires-2 c κs = search needs
@@ -25,33 +18,40 @@ string-at-requires-2 c κs = search needs
 enum-known-value : tie.Need-enum-known-value
 enum-known-value c = search needs
 
-enum-known-fault-2 : tie.Need-enum-known-fault-2
-enum-known-fault-2 c = search needs
+returns : tie.Need-returns
+unfolding spansP
+returns c =
+    let t = c .before .before .before in
+    let o = t .before .before in
+    rw (sym (o .before .before .string-at .ensures) ∙ ap spanned (o .oid .given .1), sym (t .string-at2 .ensures) ∙ ap spanned (c .before .value .given .1))
+
+enum-known-fault : tie.Need-enum-known-fault
+enum-known-fault c = search needs
 
 returns-2 : tie.Need-returns-2
 unfolding spansP
 returns-2 c =
     let t = c .before .before .before in
     let o = t .before .before in
-    rw (sym (o .before .before .string-at .ensures) ∙ ap spanned (o .span .given .1), sym (t .string-at2 .ensures) ∙ ap spanned (c .before .value .given .1))
+    rw (sym (o .before .before .string-at .ensures) ∙ ap spanned (o .oid .given .1), sym (t .string-at2 .ensures) ∙ ap spanned (c .before .fault .given .1))
+
+enum-known-fault-2 : tie.Need-enum-known-fault-2
+enum-known-fault-2 c = search needs
 
 returns-3 : tie.Need-returns-3
 unfolding spansP
-returns-3 c =
-    let t = c .before .before .before in
-    let o = t .before .before in
-    rw (sym (o .before .before .string-at .ensures) ∙ ap spanned (o .span .given .1), sym (t .string-at2 .ensures) ∙ ap spanned (c .before .fault2 .given .1))
+returns-3 c = rw (sym (c .before .before .before .string-at .ensures) ∙ ap spanned (c .before .fault2 .given .1))
 
 pub attribute-at-spec : {M : Type 1} → statement M
 attribute-at-spec =
     tie.close
     (tie.spec
     string-at-requires
-    enum-known-span
-    enum-known-fault
-    returns
+    enum-known-oid
     string-at-requires-2
     enum-known-value
-    enum-known-fault-2
+    returns
+    enum-known-fault
     returns-2
+    enum-known-fault-2
     returns-3)

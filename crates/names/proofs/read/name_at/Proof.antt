@@ -16,14 +16,14 @@ enum-known-name c = search needs
 rdns-at-requires : tie.Need-rdns-at-requires
 rdns-at-requires c κs = search needs
 
-enum-known-fault : tie.Need-enum-known-fault
-enum-known-fault c = search needs
-
 returns : tie.Need-returns
 unfolding nameP countedP
 returns c =
     let n = c .before .before in
     c .rdns-at .ensures ∙ rw (sym (n .before .before .name-begins .ensures) ∙ ap nameBegun (n .name .given .1))
+
+enum-known-fault : tie.Need-enum-known-fault
+enum-known-fault c = search needs
 
 returns-2 : tie.Need-returns-2
 unfolding nameP countedP
@@ -36,6 +36,6 @@ name-at-spec =
     name-begins-requires
     enum-known-name
     rdns-at-requires
-    enum-known-fault
     returns
+    enum-known-fault
     returns-2)

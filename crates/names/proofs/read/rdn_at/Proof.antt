@@ -16,14 +16,14 @@ enum-known-rdn c = search needs
 attributes-at-requires : tie.Need-attributes-at-requires
 attributes-at-requires c κs = search needs
 
-enum-known-fault : tie.Need-enum-known-fault
-enum-known-fault c = search needs
-
 returns : tie.Need-returns
 unfolding rdnP countedP
 returns c =
     let n = c .before .before in
     c .attributes-at .ensures ∙ rw (sym (n .before .before .rdn-begins .ensures) ∙ ap rdnBegun (n .rdn .given .1))
+
+enum-known-fault : tie.Need-enum-known-fault
+enum-known-fault c = search needs
 
 returns-2 : tie.Need-returns-2
 unfolding rdnP countedP
@@ -36,6 +36,6 @@ rdn-at-spec =
     rdn-begins-requires
     enum-known-rdn
     attributes-at-requires
-    enum-known-fault
     returns
+    enum-known-fault
     returns-2)

@@ -11,15 +11,15 @@ count-at-requires c κs = search needs
 enum-known-count : tie.Need-enum-known-count
 enum-known-count c = search needs
 
-enum-known-fault : tie.Need-enum-known-fault
-enum-known-fault c = search needs
-
 returns : tie.Need-returns
 returns c = sym (ap counted (c .before .count .given .1)) ∙ c .before .before .before .count-at .ensures
+
+enum-known-fault : tie.Need-enum-known-fault
+enum-known-fault c = search needs
 
 returns-2 : tie.Need-returns-2
 returns-2 c = sym (ap counted (c .before .fault .given .1)) ∙ c .before .before .before .count-at .ensures
 
 pub rdn-begins-spec : {M : Type 1} → statement M
 rdn-begins-spec =
-    tie.close (tie.spec count-at-requires enum-known-count enum-known-fault returns returns-2)
+    tie.close (tie.spec count-at-requires enum-known-count returns enum-known-fault returns-2)

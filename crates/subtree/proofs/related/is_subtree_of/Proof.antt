@@ -1,7 +1,8 @@
 -- `is_subtree_of` answers the first fault of the first bad argument, else what is found of the two names. Assumes nothing.
 use mathlib.Core.Path.{sym, _∙_}
 use Rattle.names.specs.Names.{nameP}
-use Rattle.names.proofs.Whole.{holds, first-bad, second-bad}
+use Rattle.names.proofs.Judged.{holds}
+use Rattle.same.proofs.Asked.{first-bad, second-bad}
 use Rattle.subtree.proofs.Found.{fine, found}
 use borrow.Author.Needs.{needs}
 use Rattle.subtree.proofs.related.is_subtree_of.Statement.{statement}

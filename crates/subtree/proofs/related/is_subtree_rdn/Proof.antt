@@ -1,7 +1,8 @@
 -- `is_subtree_rdn` answers the first fault of the first bad argument, else what the walk of the two finds. Assumes nothing.
 use mathlib.Core.Path.{_∙_}
 use borrow.Author.Needs.{needs}
-use Rattle.names.proofs.Whole.{holds, first-bad, second-bad, walked}
+use Rattle.names.proofs.Judged.{holds}
+use Rattle.same.proofs.Asked.{first-bad, second-bad, walked}
 use Rattle.subtree.proofs.related.is_subtree_rdn.Statement.{statement}
 use Rattle.subtree.proofs.related.is_subtree_rdn.Tie as tie
 

@@ -3,7 +3,8 @@
 use mathlib.Core.Path.{sym, ap, _∙_}
 use Rattle.names.specs.Names.{attrP, rdnP}
 use Rattle.names.specs.Answers.{rdnBegun}
-use Rattle.names.proofs.Whole.{holds, first-bad, second-bad}
+use Rattle.names.proofs.Judged.{holds}
+use Rattle.same.proofs.Asked.{first-bad, second-bad}
 use Rattle.subtree.proofs.Found.{has-found, rdn-begun}
 use borrow.Author.Needs.{needs}
 use Rattle.subtree.proofs.related.rdn_has_name.Statement.{statement}

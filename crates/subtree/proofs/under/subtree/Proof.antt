@@ -3,7 +3,7 @@ use mathlib.Core.Path.{sym, ap, _∙_}
 use Rattle.names.specs.Names.{rdnP, nameP}
 use Rattle.subtree.specs.Subtree.{isSubtreeRdn, isSubtreeOf}
 use Rattle.names.specs.Answers.{nameBegun}
-use Rattle.names.proofs.Walks.{through, walk-both, no-count-left, no-count-right}
+use Rattle.same.proofs.Walks.{through, walk-both, no-count-left, no-count-right}
 use Rattle.subtree.proofs.Rows.{name-row, longer-differs, front-judged}
 use borrow.Author.Needs.{needs}
 use Rattle.subtree.proofs.under.subtree.Statement.{statement}

@@ -6,7 +6,7 @@ use Rattle.fields.proofs.Ends.{passing-stops}
 use Rattle.names.specs.Names.{rdnP}
 use Rattle.subtree.specs.Subtree.{isSubtreeRdn}
 use Rattle.names.specs.Answers.{rdnBegun}
-use Rattle.names.proofs.Walks.{stop-right, no-count-left, no-count-right}
+use Rattle.same.proofs.Walks.{stop-right, no-count-left, no-count-right}
 use Rattle.subtree.proofs.Rows.{rdn-row, longer-differs, standing-judged}
 use borrow.Author.Needs.{needs}
 use Rattle.subtree.proofs.under.subtree_rdn_walk.Statement.{statement}

@@ -2,10 +2,11 @@
 use mathlib.Core.Path.{_≡_, refl, sym, _∙_}
 use borrow.Author.Needs.{needs}
 use Rattle.fields.specs.Fields.{many}
-use Rattle.names.specs.Names.{rdnP, places}
+use Rattle.names.specs.Names.{rdnP}
+use Rattle.same.specs.Same.{places}
 use Rattle.subtree.specs.Subtree.{isSubtreeRdn}
-use Rattle.names.specs.Walks.{walk}
-use Rattle.names.proofs.Walks.{walk-none, walk-on, walk-differs}
+use Rattle.same.specs.Walks.{walk}
+use Rattle.same.proofs.Walks.{walk-none, walk-on, walk-differs}
 use Rattle.subtree.proofs.under.subtree_rdns_walk.Statement.{statement}
 use Rattle.subtree.proofs.under.subtree_rdns_walk.Tie as tie
 

@@ -1,0 +1,6 @@
+pub mod Asked
+pub mod Compared
+pub mod Frauds
+pub mod Pinned
+pub mod Upstream
+pub mod Walks

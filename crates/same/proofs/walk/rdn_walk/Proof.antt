@@ -1,0 +1,75 @@
+-- `rdn_walk` walks the attributes of two RDNs, which differ where their counts do. Assumes nothing.
+use mathlib.Core.Path.{sym, ap, _∙_}
+use Rattle.names.specs.Names.{attrP, rdnP}
+use Rattle.names.specs.Answers.{rdnBegun}
+use Rattle.same.specs.Same.{sameAttr, sameRdn}
+use Rattle.same.proofs.Walks.{counted-same, counted-uneven, no-count-left, no-count-right}
+use borrow.Author.Needs.{needs}
+use Rattle.same.proofs.walk.rdn_walk.Statement.{statement}
+use Rattle.same.proofs.walk.rdn_walk.Tie as tie
+
+rdn-begins-requires : tie.Need-rdn-begins-requires
+rdn-begins-requires c κs = search needs
+
+enum-known-a : tie.Need-enum-known-a
+enum-known-a c = search needs
+
+enum-told : tie.Need-enum-told
+enum-told c = search needs
+
+returns : tie.Need-returns
+unfolding rdnP
+returns c = sym (no-count-left (sameRdn _) attrP _ _ _ _ _ _ _ (sym (c .before .before .rdn-begins .ensures) ∙ ap rdnBegun (c .enum-told .given .1)))
+
+rdn-begins-requires-2 : tie.Need-rdn-begins-requires-2
+rdn-begins-requires-2 c κs = search needs
+
+enum-known-b : tie.Need-enum-known-b
+enum-known-b c = search needs
+
+enum-told-2 : tie.Need-enum-told-2
+enum-told-2 c = search needs
+
+returns-2 : tie.Need-returns-2
+unfolding rdnP
+returns-2 c = sym (no-count-right (sameRdn _) attrP _ _ _ _ _ _ _ (sym (c .before .before .rdn-begins2 .ensures) ∙ ap rdnBegun (c .enum-told2 .given .1)))
+
+attrs-walk-requires : tie.Need-attrs-walk-requires
+attrs-walk-requires c κs = search needs
+
+returns-3 : tie.Need-returns-3
+unfolding rdnP sameRdn
+returns-3 c =
+    let b = c .before .before .before .before .before in
+    let a = b .before .before .before .before in
+    c .attrs-walk .ensures
+    ∙ sym (counted-same (sameAttr _) attrP _ _ _ _ _ _ _ _ _ _
+    (sym (a .before .before .rdn-begins .ensures) ∙ ap rdnBegun (a .a .given .1))
+    (sym (b .before .before .rdn-begins2 .ensures) ∙ ap rdnBegun (b .b .given .1))
+    (c .before .if1 .taken))
+
+returns-4 : tie.Need-returns-4
+unfolding rdnP sameRdn
+returns-4 c =
+    let b = c .before .before .before .before in
+    let a = b .before .before .before .before in
+    sym (counted-uneven (sameAttr _) attrP _ _ _ _ _ _ _ _ _ _
+    (sym (a .before .before .rdn-begins .ensures) ∙ ap rdnBegun (a .a .given .1))
+    (sym (b .before .before .rdn-begins2 .ensures) ∙ ap rdnBegun (b .b .given .1))
+    (c .if1 .left))
+
+pub rdn-walk-spec : {M : Type 1} → statement M
+rdn-walk-spec =
+    tie.close
+    (tie.spec
+    rdn-begins-requires
+    enum-known-a
+    enum-told
+    returns
+    rdn-begins-requires-2
+    enum-known-b
+    enum-told-2
+    returns-2
+    attrs-walk-requires
+    returns-3
+    returns-4)

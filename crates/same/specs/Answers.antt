@@ -1,0 +1,32 @@
+-- What each answer stands for, and what a relation of two encoded arguments answers. Assumes nothing.
+use Prim.Native.Nat.{ℕ}
+use mathlib.Core.Bool.{Bool, false, cond}
+use Rattle.fields.specs.Fields.{Parsed, got, stop}
+use Rattle.fields.specs.Answers.{number}
+use Rattle.same.specs.declared.walk.Walk.{Walk}
+use Rattle.same.specs.declared.walk.Walk.the-variants.{On, Differ}
+use Rattle.same.specs.declared.related.Related.{Related}
+use Rattle.same.specs.declared.related.Related.the-variants.{No, Yes, Stop}
+
+-- yes is 1, no is 0, else the number of the fault
+abbrev pub said : Related → ℕ
+said No = 0
+said Yes = 1
+said (Stop f) = number f
+
+-- the first argument is judged through before the second is looked at, then they are related
+abbrev pub asked : {A B : Type 0} → (A → B → Bool) → Parsed A → Parsed B → ℕ
+asked q (stop r) b = r
+asked q (got x e) (stop r) = r
+asked q (got x e) (got y f) = cond (q x y) 1 0
+
+-- two names of a file are the same: no where either place has no name
+abbrev pub bothSame : {A : Type 0} → (A → A → Bool) → Parsed A → Parsed A → Bool
+bothSame q (stop r) b = false
+bothSame q (got x e) (stop r) = false
+bothSame q (got x e) (got y f) = q x y
+
+-- a walk that came through is a yes
+abbrev pub came : Walk → ℕ
+came (On e f) = 1
+came Differ = 0

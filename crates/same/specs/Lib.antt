@@ -1,0 +1,3 @@
+pub mod Same
+pub mod Answers
+pub mod Walks

@@ -1,0 +1,173 @@
+// Two attributes, RDNs or names walked side by side, place by place.
+use fields::part;
+use names::Attribute;
+use names::AttributeAt;
+use names::NameAt;
+use names::RdnAt;
+use names::attribute_at;
+use names::name_begins;
+use names::rdn_begins;
+use text::Normalized;
+use text::equal;
+use text::normalize_string;
+ghost use mathlib.Core.Path.{_≡_};
+ghost use Prim.Native.Nat.{_≤_};
+ghost use lib.ListN.{length};
+ghost use Rattle.fields.specs.Fields.{many};
+ghost use Rattle.text.specs.Bytes.{same};
+ghost use Rattle.text.specs.Normal.{normal};
+ghost use Rattle.names.specs.Names.{attrP, rdnP, nameP};
+ghost use Rattle.names.specs.Answers.{attrOf, Short};
+ghost use Rattle.same.specs.Same.{places, sameAttr, sameRdn, sameDn};
+ghost use Rattle.same.specs.Answers.{bothSame};
+ghost use Rattle.same.specs.Walks.{walk};
+
+// Two things are related and end here; or they are not, or one of them can't be read.
+pub enum Walk {
+    On { left: usize, right: usize },
+    Differ,
+}
+
+// Whether the names at two places of a file are the same, walked once.
+pub fn same_names(file: &[u8], a: usize, b: usize, normalise: bool) -> bool
+    ensures { λ r. ⌜ r ≡ bothSame (sameDn normalise) (nameP (now (file .entry)) a) (nameP (now (file .entry)) b) ⌝ }
+{
+    match dn_walk(file, a, file, b, normalise) {
+        Walk::On { left: _, right: _ } => {
+            return true;
+        }
+        Walk::Differ => {
+            return false;
+        }
+    }
+}
+
+// The names at two places: as many RDNs, the same place by place.
+pub(crate) fn dn_walk(s: &[u8], at: usize, t: &[u8], bt: usize, normalise: bool) -> Walk
+    ensures { λ r. ⌜ r ≡ walk (sameDn normalise) (nameP (now (s .entry)) at) (nameP (now (t .entry)) bt) ⌝ }
+{
+    let NameAt::Got(left) = name_begins(s, at) else {
+        return Walk::Differ;
+    };
+    let NameAt::Got(right) = name_begins(t, bt) else {
+        return Walk::Differ;
+    };
+    if left.count == right.count {
+        return rdns_walk(s, left.first, t, right.first, left.count, normalise);
+    }
+    Walk::Differ
+}
+
+// n RDNs from each of two places on.
+fn rdns_walk(s: &[u8], at: usize, t: &[u8], bt: usize, n: usize, normalise: bool) -> Walk
+    ensures { λ r. ⌜ r ≡ walk (places (sameRdn normalise)) (many rdnP n (now (s .entry)) at) (many rdnP n (now (t .entry)) bt) ⌝ }
+{
+    let mut a = at;
+    let mut b = bt;
+    let mut rest = n;
+    while 0 < rest {
+        match rdn_walk(s, a, t, b, normalise) {
+            Walk::On { left, right } => {
+                a = left;
+                b = right;
+                rest -= 1;
+            }
+            Walk::Differ => {
+                return Walk::Differ;
+            }
+        }
+    }
+    Walk::On { left: a, right: b }
+}
+
+// The RDNs at two places: as many attributes, the same place by place.
+pub(crate) fn rdn_walk(s: &[u8], at: usize, t: &[u8], bt: usize, normalise: bool) -> Walk
+    ensures { λ r. ⌜ r ≡ walk (sameRdn normalise) (rdnP (now (s .entry)) at) (rdnP (now (t .entry)) bt) ⌝ }
+{
+    let RdnAt::Got(a) = rdn_begins(s, at) else {
+        return Walk::Differ;
+    };
+    let RdnAt::Got(b) = rdn_begins(t, bt) else {
+        return Walk::Differ;
+    };
+    if a.count == b.count {
+        return attrs_walk(s, a.first, t, b.first, a.count, normalise);
+    }
+    Walk::Differ
+}
+
+// n attributes from each of two places on.
+fn attrs_walk(s: &[u8], at: usize, t: &[u8], bt: usize, n: usize, normalise: bool) -> Walk
+    ensures { λ r. ⌜ r ≡ walk (places (sameAttr normalise)) (many attrP n (now (s .entry)) at) (many attrP n (now (t .entry)) bt) ⌝ }
+{
+    let mut a = at;
+    let mut b = bt;
+    let mut rest = n;
+    while 0 < rest {
+        match attr_walk(s, a, t, b, normalise) {
+            Walk::On { left, right } => {
+                a = left;
+                b = right;
+                rest -= 1;
+            }
+            Walk::Differ => {
+                return Walk::Differ;
+            }
+        }
+    }
+    Walk::On { left: a, right: b }
+}
+
+// The attributes at two places.
+pub fn attr_walk(s: &[u8], at: usize, t: &[u8], bt: usize, normalise: bool) -> Walk
+    ensures { λ r. ⌜ r ≡ walk (sameAttr normalise) (attrP (now (s .entry)) at) (attrP (now (t .entry)) bt) ⌝ }
+{
+    let AttributeAt::Got(a) = attribute_at(s, at) else {
+        return Walk::Differ;
+    };
+    let AttributeAt::Got(b) = attribute_at(t, bt) else {
+        return Walk::Differ;
+    };
+    if same_attribute(s, a, t, b, normalise) {
+        return Walk::On {
+            left: a.value.end,
+            right: b.value.end,
+        };
+    }
+    Walk::Differ
+}
+
+// Whether two attributes that were read are the same. Equal values are not normalised, since their normal forms are equal too.
+fn same_attribute(s: &[u8], a: Attribute, t: &[u8], b: Attribute, normalise: bool) -> bool
+    requires { ⌜ Short a (now s) × Short b (now t) ⌝ }
+    ensures { λ r. ⌜ r ≡ sameAttr normalise (attrOf a (now (s .entry))) (attrOf b (now (t .entry))) ⌝ }
+{
+    if !equal(part(s, a.oid), part(t, b.oid)) {
+        return false;
+    }
+    let x = part(s, a.value);
+    let y = part(t, b.value);
+    if equal(x, y) {
+        return true;
+    }
+    if normalise {
+        return same_normal(x, y);
+    }
+    false
+}
+
+// Whether two values have the same normal form: each is at most an attribute value's longest.
+fn same_normal(a: &[u8], b: &[u8]) -> bool
+    requires { do ⌜ (length (now a) ≤ (← ⟦Attribute::VALUE_MOST⟧)) × (length (now b) ≤ (← ⟦Attribute::VALUE_MOST⟧)) ⌝ }
+    ensures { λ r. ⌜ r ≡ same (normal (now (a .entry))) (normal (now (b .entry))) ⌝ }
+{
+    let mut x = [0u8; Attribute::VALUE_MOST];
+    let Normalized::Length(n) = normalize_string(a, &mut x) else {
+        return false;
+    };
+    let mut y = [0u8; Attribute::VALUE_MOST];
+    let Normalized::Length(m) = normalize_string(b, &mut y) else {
+        return false;
+    };
+    equal(&x[..n], &y[..m])
+}
