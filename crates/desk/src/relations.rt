@@ -1,9 +1,10 @@
 // The relations of two encoded attributes, RDNs or names for C: 0 is no, 1 is yes, else the number of the first bad argument's fault.
-use names::Related;
+use same::Related;
 ghost use mathlib.Core.Path.{_≡_};
 ghost use Rattle.fields.specs.Fields.{whole};
-ghost use Rattle.names.specs.Names.{attrP, rdnP, nameP, sameAttr, sameRdn, sameDn};
-ghost use Rattle.names.specs.Answers.{said, asked};
+ghost use Rattle.names.specs.Names.{attrP, rdnP, nameP};
+ghost use Rattle.same.specs.Same.{sameAttr, sameRdn, sameDn};
+ghost use Rattle.same.specs.Answers.{said, asked};
 ghost use Rattle.subtree.specs.Subtree.{rdnHasName, isSubtreeRdn, isSubtreeOf};
 ghost use Rattle.desk.specs.Leaves.{flagged};
 
@@ -12,7 +13,7 @@ ghost use Rattle.desk.specs.Leaves.{flagged};
 pub extern "C" fn savuneco_same_attr(a: &[u8], b: &[u8], normalise: u8) -> u8
     ensures { λ r. ⌜ r ≡ asked (sameAttr (flagged normalise)) (whole attrP (now (a .entry))) (whole attrP (now (b .entry))) ⌝ }
 {
-    number_of(names::same_attr(a, b, normalise != 0))
+    number_of(same::same_attr(a, b, normalise != 0))
 }
 
 // As many attributes, the same place by place.
@@ -20,7 +21,7 @@ pub extern "C" fn savuneco_same_attr(a: &[u8], b: &[u8], normalise: u8) -> u8
 pub extern "C" fn savuneco_same_rdn(a: &[u8], b: &[u8], normalise: u8) -> u8
     ensures { λ r. ⌜ r ≡ asked (sameRdn (flagged normalise)) (whole rdnP (now (a .entry))) (whole rdnP (now (b .entry))) ⌝ }
 {
-    number_of(names::same_rdn(a, b, normalise != 0))
+    number_of(same::same_rdn(a, b, normalise != 0))
 }
 
 // As many RDNs, the same place by place.
@@ -28,7 +29,7 @@ pub extern "C" fn savuneco_same_rdn(a: &[u8], b: &[u8], normalise: u8) -> u8
 pub extern "C" fn savuneco_same_dn(a: &[u8], b: &[u8], normalise: u8) -> u8
     ensures { λ r. ⌜ r ≡ asked (sameDn (flagged normalise)) (whole nameP (now (a .entry))) (whole nameP (now (b .entry))) ⌝ }
 {
-    number_of(names::same_dn(a, b, normalise != 0))
+    number_of(same::same_dn(a, b, normalise != 0))
 }
 
 // Whether some attribute of an RDN, the first argument, is the same as the second.

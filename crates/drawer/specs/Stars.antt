@@ -12,7 +12,8 @@ use Rattle.text.specs.Bytes.{lowered, same, hasByte, startsWith, endsWith}
 use Rattle.text.specs.Normal.{normal, normalFrom}
 use Rattle.text.specs.Wildcard.{starDot, underStar, matchName}
 use Rattle.keys.specs.Address.{masked, holds, ipAddrInRange}
-use Rattle.names.specs.Names.{Attr, sameAttr}
+use Rattle.names.specs.Names.{Attr}
+use Rattle.same.specs.Same.{sameAttr}
 use Rattle.subtree.specs.Subtree.{someOf, everyOf, rdnHasName, isSubtreeRdn}
 
 -- a text's bytes

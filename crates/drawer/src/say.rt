@@ -1,8 +1,8 @@
 // What is written: one line for each case, its label and the reply.
 use crate::lines::part;
 use libc::STDOUT_FILENO;
-use names::Related;
 use policy::Top;
+use same::Related;
 use text::Normalized;
 
 // A reply is a number: 0 is no, 1 is yes, a fault has its own up to 10, and this one is that there is no such question.
