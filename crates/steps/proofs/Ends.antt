@@ -18,10 +18,9 @@ use Rattle.rows.proofs.Places.{Least}
 use Rattle.steps.specs.declared.Answer.{Answer}
 use Rattle.steps.specs.Answer.{pathShown, shown, Paused}
 use Rattle.steps.specs.Parts.{Stopped}
-use Rattle.steps.specs.Settles.{Roots, Accepted, accepted, refused, exhausted}
+use Rattle.steps.specs.Settles.{Roots, Qualifies, Accepted, accepted, refused, exhausted}
 use Rattle.steps.specs.Slots.{slotOf, flat, pathOf}
 use Rattle.order.proofs.Bound.{after-fits}
-use Rattle.steps.proofs.Least.{least-none}
 use Rattle.steps.proofs.Stack.{path-slot}
 use Rattle.steps.proofs.Turn.{Lies, Given, Going, Taken}
 use Rattle.steps.proofs.Verdict.{barren-more, accepts, refuses, exhausts}
@@ -82,33 +81,36 @@ module _ (g : Places) (r : Roots) (budget w : ℕ) {start room : List ℕ} {k m 
       more [] e q = absurd (omega arith)
       more (p ∷ st) e q = waiting-step g (G .given .some) (paths-listing g (G .given .some)) k q .0
 
-  pub going-refused : {entry : List ℕ} → m ≤ 0 → Lies w entry room m (G .st) → Stopped g r budget w entry room (reply.Refused k) (slotOf []) m
-  going-refused b l = record {
-    outcome = refused k;
-    settled = refuses g r (paths-listing g (G .given .some)) budget k (all (G .st) (l .size) (G .waits)) (G .time) (G .barren);
-    says = refl;
-    shows = refl;
-    stack = G .st;
-    order = (paths g, paths-listing g (G .given .some), G .waits);
-    left = l .size;
-    fits = omega (arith, l .size, fits (G .waits));
-    held = l .held;
-    rest = l .rest;
-  }
+  pub going-refused : {entry : List ℕ} → m ≤ 0 → Lies w entry room m (G .st) → Stopped g r budget w entry room (reply.Refused k) (slotOf []) 0
+  going-refused {entry} b l =
+      let z : m ≡ 0 = omega arith in
+      let s : Stopped g r budget w entry room (reply.Refused k) (slotOf []) m = record {
+        outcome = refused k;
+        settled = refuses g r (paths-listing g (G .given .some)) budget k (all (G .st) (l .size) (G .waits)) (G .time) (G .barren);
+        says = refl;
+        shows = refl;
+        stack = G .st;
+        order = (paths g, paths-listing g (G .given .some), G .waits);
+        left = l .size;
+        fits = omega (arith, l .size, fits (G .waits));
+        held = l .held;
+        rest = l .rest;
+      } in
+      rw z at s
     where
       all : (st : List (List ℕ)) → m ≡ length st → Waiting (paths g) k st → k ≡ length (paths g)
       all [] e q = omega (arith, G .early, waiting-end g (G .given .some) (paths-listing g (G .given .some)) k .0 q)
       all (p ∷ st) e q = absurd (omega arith)
 
-  module _ {s : List ℕ} (t : Taken g w room k m (G .st) s) (h : k < budget) {i : ℕ} (j : Least (r .good (pathOf s)) 0 (r .count) i) {after : List ℕ} {m′ : ℕ} where
-    pub going-accepted : {entry : List ℕ} {root : RootPlace} → i < r .count → root .0 ≡ i → Lies w entry after m′ (kids g (pathOf s) ++ t .under)
-        → Stopped g r budget w entry after (reply.Accepted root (k + 1)) s m′
-    going-accepted c q l =
-        let a : Accepted g r budget (pathOf s) i (suc k) = rw (t .next) at (accepts g r (paths-listing g (G .given .some)) budget k i (t .more) h (G .barren) (rw (t .next) j) c) in
+  module _ {s : List ℕ} (t : Taken g w room k m (G .st) s) (h : k < budget) {after : List ℕ} {m′ : ℕ} where
+    pub going-accepted : {entry : List ℕ} {root : RootPlace} → Least (r .good (pathOf s)) 0 (r .count) (root .0) × (root .0 < r .count)
+        → Lies w entry after m′ (kids g (pathOf s) ++ t .under) → Stopped g r budget w entry after (reply.Accepted root (k + 1)) s m′
+    going-accepted {entry} {root} (j, c) l =
+        let a : Accepted g r budget (pathOf s) (root .0) (suc k) = rw (t .next) at (accepts g r (paths-listing g (G .given .some)) budget k (root .0) (t .more) h (G .barren) (rw (t .next) j) c) in
         rw add-one (record {
-          outcome = accepted (pathOf s) i (suc k);
+          outcome = accepted (pathOf s) (root .0) (suc k);
           settled = a;
-          says = rw q;
+          says = refl;
           shows = t .whole;
           stack = kids g (pathOf s) ++ t .under;
           order = (paths g, paths-listing g (G .given .some), t .waits);
@@ -118,15 +120,15 @@ module _ (g : Places) (r : Roots) (budget w : ℕ) {start room : List ℕ} {k m 
           rest = l .rest;
         })
 
-    pub going-on : r .count ≤ i → Lies w start after m′ (kids g (pathOf s) ++ t .under) → Going g r budget w start after (k + 1) m′
-    going-on c l = rw add-one (record {
+    pub going-on : ¬ Qualifies r (pathOf s) → Lies w start after m′ (kids g (pathOf s) ++ t .under) → Going g r budget w start after (k + 1) m′
+    going-on n l = rw add-one (record {
       given = G .given;
       st = kids g (pathOf s) ++ t .under;
       lies = l;
       waits = t .waits;
       early = t .more;
       time = h;
-      barren = barren-more g r (paths-listing g (G .given .some)) k (t .more) (G .barren) (rw (t .next) (least-none r j c));
+      barren = barren-more g r (paths-listing g (G .given .some)) k (t .more) (G .barren) (rw (t .next) n);
     })
 
 -- what stands above the waiting paths is cleared, and the path is handed out

@@ -17,13 +17,6 @@ impl Slot {
     pub const BYTES: usize = 17;
 }
 
-// A byte as a number that can be an index.
-pub(crate) fn wide(x: u8) -> usize
-    ensures { λ r. ⌜ r ≡ x ⌝ }
-{
-    x as usize
-}
-
 // The bytes of slot t.
 pub(crate) fn read_slot(room: &[u8], t: usize) -> [u8; Slot::BYTES]
     requires { ⌜ 17 * t + 17 ≤ length (now room) ⌝ }

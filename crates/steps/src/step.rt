@@ -1,6 +1,5 @@
 // One step: the places by which a path goes on, its children laid in the room, and its root.
 use crate::room::Slot;
-use crate::room::wide;
 use crate::room::write_slot;
 use card::Bundle;
 use card::Roots;
@@ -15,36 +14,26 @@ ghost use Prim.Native.Nat.{ℕ, _+_, _*_, _≤_, _<_};
 ghost use lib.ListN.{length, take, drop, getD, set};
 ghost use lib.Seq.{paste};
 ghost use Rattle.order.specs.Paths.{Simple};
-ghost use Rattle.order.specs.Walk.{used};
 ghost use Rattle.policy.specs.Judging.{judgedRoot, topOf};
 ghost use Rattle.rows.specs.Rows.{has};
 ghost use Rattle.steps.specs.Answer.{issuers, placesBy};
 ghost use Rattle.steps.specs.Parts.{goes, grown};
 ghost use Rattle.steps.specs.Slots.{slotOf, flat, pathOf, HoldsPath};
 
-// The places of s's path as a row.
-fn used_of(s: [u8; Slot::BYTES]) -> u64
+// The places by which s's path goes on, as a row.
+fn next_places(s: [u8; Slot::BYTES], rows: &[u64; Bundle::MOST]) -> u64
     requires { ⌜ HoldsPath s ⌝ }
-    ensures { λ r. ⌜ ((i : ℕ) → has i r ≡ used i (pathOf s)) ⌝ }
+    ensures { λ r. ⌜ ((i : ℕ) → has i r ≡ goes (issuers (now (rows .entry))) (pathOf s) i) ⌝ }
 {
-    let len = wide(s[0]);
+    let len = s[0] as usize;
     let mut used: u64 = 0;
     let mut j = 0;
     while j < len {
         used = with(used, s[j + 1]);
         j += 1;
     }
-    used
-}
-
-// The places by which s's path goes on, as a row.
-fn next_places(s: [u8; Slot::BYTES], rows: &[u64; Bundle::MOST]) -> u64
-    requires { ⌜ HoldsPath s ⌝ }
-    ensures { λ r. ⌜ ((i : ℕ) → has i r ≡ goes (issuers (now (rows .entry))) (pathOf s) i) ⌝ }
-{
-    let len = wide(s[0]);
-    let last = wide(s[len]);
-    without(rows[last], used_of(s))
+    let last = s[len] as usize;
+    without(rows[last], used)
 }
 
 // Puts in slot t the child of s's path by place i.
@@ -52,10 +41,11 @@ fn put_child(room: &mut [u8], t: usize, s: [u8; Slot::BYTES], i: u8)
     requires { ⌜ (17 * t + 17 ≤ length (now room)) × (getD s 0 0 < 16) ⌝ }
     ensures { λ _. ⌜ now (room .exit) ≡ paste (now (room .entry)) (17 * t) (set (set s (getD s 0 0 + 1) i) 0 (getD s 0 0 + 1)) 17 ⌝ }
 {
-    let len = wide(s[0]);
-    write_slot(room, t, s);
-    room[Slot::BYTES * t + (len + 1)] = i;
-    room[Slot::BYTES * t] = s[0] + 1;
+    let len = s[0] as usize;
+    let mut child = s;
+    child[len + 1] = i;
+    child[0] = s[0] + 1;
+    write_slot(room, t, child);
 }
 
 // Lays the children of s's path in the slots from m on, and returns how many slots are then in use.
@@ -96,6 +86,6 @@ pub(crate) fn root_at(
     requires { ⌜ HoldsPath s ⌝ }
     ensures { λ r. ⌜ r ≡ topOf (judgedRoot (now (roots .entry)) between (now (limits .entry)) above (now (tops .entry)) (pathOf s)) ⌝ }
 {
-    let end = wide(s[0]) + 1;
+    let end = s[0] as usize + 1;
     lowest_root(&s[1..end], roots, between, limits, above, tops)
 }

@@ -1,9 +1,9 @@
 -- `read_slot` meets its contract. After j turns the array is the slot's first j bytes and then its own. Assumes nothing.
-use mathlib.Core.Path.{_≡_, refl, _∙_}
+use mathlib.Core.Path.{_≡_, refl, ap, _∙_}
 use mathlib.Core.List.{List, _++_, append-nil}
 use Prim.Native.Nat.{ℕ, _+_, _*_, _-_, _≤_, _<_}
 use native.Mathlib.Omega.{arith}
-use lib.ListN.{length, take, drop, replicate, length-set}
+use lib.ListN.{length, take, drop, getD, set, replicate, length-set}
 use Rattle.steps.proofs.Lists.{copy-more}
 use Rattle.steps.proofs.room.read_slot.Statement.{statement}
 use Rattle.steps.proofs.room.read_slot.Tie as tie
@@ -39,11 +39,10 @@ loop-again : tie.Need-loop-again Inv-loop μ-loop
 loop-again c =
     let l = c .before .before .loop in
     let a = c .before .before .before .args in
-    let h : l .j < length (l .s) = omega arith in
     let k : 17 * a .t + l .j < length (a .room .now) = omega arith in
     let z : List ℕ = replicate 17 0 in
     let k17 : l .j < 17 = omega arith in
-    (omega arith, (cc (copy-more (a .room .now) z (17 * a .t) (l .j) k k17), simp length-set (l .inv .1 .1)))
+    (omega arith, (ap (λ (x : List ℕ). set x (l .j) (getD (a .room .now) (17 * a .t + l .j) 0)) (l .inv .1 .0) ∙ copy-more (a .room .now) z (17 * a .t) (l .j) k k17, simp length-set (l .inv .1 .1)))
 
 returns : tie.Need-returns Inv-loop μ-loop
 returns c =

@@ -1,9 +1,10 @@
 -- `write_slot` meets its contract. Assumes nothing.
-use mathlib.Core.Path.{_≡_, refl, _∙_}
-use Prim.Native.Nat.{_+_, _*_, _-_, _≤_, _<_}
+use mathlib.Core.Path.{_≡_, refl, ap, _∙_}
+use mathlib.Core.List.{List}
+use Prim.Native.Nat.{ℕ, _+_, _*_, _-_, _≤_, _<_}
 use borrow.Author.Needs.{needs}
 use native.Mathlib.Omega.{arith}
-use lib.ListN.{length, length-set}
+use lib.ListN.{length, getD, set, length-set}
 use lib.Seq.{paste, paste-zero}
 use Rattle.steps.proofs.Lists.{paste-more}
 use Rattle.steps.proofs.room.write_slot.Statement.{statement}
@@ -43,7 +44,7 @@ loop-again c =
     let k : 17 * a .t + l .j < length (a .room .now) = omega arith in
     let e : length (a .t3) ≡ 17 = search needs in
     let k17 : l .j < length (a .t3) = omega arith in
-    (omega arith, (cc (paste-more (a .room .now) (17 * a .t) (a .t3) (l .j) k k17), simp length-set (l .inv .1 .1)))
+    (omega arith, (ap (λ (x : List ℕ). set x (17 * a .t + l .j) (getD (a .t3) (l .j) 0)) (l .inv .1 .0) ∙ paste-more (a .room .now) (17 * a .t) (a .t3) (l .j) k k17, simp length-set (l .inv .1 .1)))
 
 same-length : tie.Need-same-length Inv-loop μ-loop
 same-length c = c .before .loop .inv .1 .1

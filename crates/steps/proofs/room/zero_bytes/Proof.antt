@@ -1,8 +1,9 @@
 -- `zero_bytes` meets its contract. Assumes nothing.
-use mathlib.Core.Path.{_≡_, refl, _∙_}
-use Prim.Native.Nat.{_-_, _≤_, _<_}
+use mathlib.Core.Path.{_≡_, refl, ap, _∙_}
+use mathlib.Core.List.{List}
+use Prim.Native.Nat.{ℕ, _-_, _≤_, _<_}
 use native.Mathlib.Omega.{arith}
-use lib.ListN.{length, length-set}
+use lib.ListN.{length, set, length-set}
 use Rattle.steps.proofs.Lists.{zeroed, zeroed-none, zeroed-more}
 use Rattle.steps.proofs.room.zero_bytes.Statement.{statement}
 use Rattle.steps.proofs.room.zero_bytes.Tie as tie
@@ -31,7 +32,7 @@ loop-again c =
     let a = c .before .before .args in
     let h : a .a ≤ l .j = omega arith in
     let k : l .j < length (a .room .now) = omega arith in
-    (omega arith, (omega arith, (cc (zeroed-more (a .a) (l .j) (a .room .now) h k), simp length-set (l .inv .1 .1 .1))))
+    (omega arith, (omega arith, (ap (λ (x : List ℕ). set x (l .j) 0) (l .inv .1 .1 .0) ∙ zeroed-more (a .a) (l .j) (a .room .now) h k, simp length-set (l .inv .1 .1 .1))))
 
 same-length : tie.Need-same-length Inv-loop μ-loop
 same-length c = c .before .loop .inv .1 .1 .1

@@ -1,5 +1,6 @@
 -- `run` replies as the walk does, and clears what stands above the waiting paths. Assumes nothing.
 use borrow.Author.Needs.{needs}
+use Rattle.steps.specs.Answer.{placesOf, rootsOf}
 use Rattle.steps.proofs.Ends.{stopped-paused}
 use Rattle.steps.proofs.Stack.{slot-whole}
 use Rattle.steps.proofs.run.run.Statement.{statement}
@@ -33,7 +34,8 @@ returns : tie.Need-returns
 returns c =
     let z = c .before .before .before .before in
     let w = z .before .before .before .before .before in
-    stopped-paused (w .walk .ensures) (w .before .before .before .before .before .before .slots .ensures) (z .zero-bytes .ensures) (c .path-in .ensures)
+    let a = w .before .before .before .before .before .before .before .before .before .before .before .before .args in
+    stopped-paused {g = placesOf (a .issuing) (a .n)} {r = rootsOf (a .issuing) (a .judged)} (w .walk .ensures) (w .before .before .before .before .before .before .slots .ensures) (z .zero-bytes .ensures) (c .path-in .ensures)
 
 pub run-spec : {M : Type 1} → statement M
 run-spec =

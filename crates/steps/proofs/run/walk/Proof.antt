@@ -1,6 +1,6 @@
 -- `walk` stops as its contract says. The invariant: so many paths of the listing are taken, none of which qualifies, and the room holds what
 -- waits. Assumes nothing.
-use mathlib.Core.Path.{_≡_, refl, sym, ap, _∙_}
+use mathlib.Core.Path.{refl, ap, _∙_}
 use mathlib.Core.List.{List, [], _∷_, _++_}
 use Prim.Native.Nat.{ℕ, _*_, _-_, _≤_}
 use borrow.Author.Needs.{needs}
@@ -11,7 +11,7 @@ use Rattle.order.proofs.Formula.{slots-some}
 use Rattle.steps.specs.Answer.{placesBy, rootsBy}
 use Rattle.steps.specs.Slots.{padded, slotOf, pathOf}
 use Rattle.steps.proofs.Ends.{start-rest, going-start, restart, going-top, going-exhausted, going-refused, going-accepted, going-on}
-use Rattle.steps.proofs.Least.{judged-least, top-root, top-none}
+use Rattle.steps.proofs.Least.{judged-found, judged-none}
 use Rattle.steps.proofs.Stack.{simple-slot}
 use Rattle.steps.proofs.Turn.{Lies, Going, Taken, taken, laid}
 use Rattle.steps.proofs.run.walk.Statement.{statement}
@@ -63,7 +63,7 @@ returns c =
     (going-exhausted _ _ _ _ (at .loop .inv) (c .before .before .loop-test .taken) spent (here at (at .loop .inv .lies)))
 
 sub-m : tie.Need-sub-m Inv-loop μ-loop
-sub-m c = omega arith
+sub-m c = c .before .loop-test .taken
 
 read-slot-requires : tie.Need-read-slot-requires Inv-loop μ-loop
 read-slot-requires c κs = going-top _ _ _ _ (c .before .before .before .loop .inv) (c .before .before .loop-test .taken)
@@ -106,8 +106,8 @@ returns-2 c =
     let x = c .before .before .before .before .before .before in
     let r = x .before .before in
     let at = r .before .before .before .before in
-    let found = top-root _ _ (sym (c .before .before .before .root-at .ensures) ∙ c .before .root .given .1) in
-    going-accepted _ _ _ _ (at .loop .inv) (top r) (r .before .before .if1 .left) (judged-least _ _ _ _ _ _) (found .0) (found .1) (here at (after x))
+    let a = at .before .before .before .before .before .before .args in
+    going-accepted _ _ _ _ (at .loop .inv) (top r) (r .before .before .if1 .left) (judged-found (a .roots .now) (a .between) (a .limits .now) (a .above) (a .tops .now) (pathOf (r .read-slot .result)) (c .before .before .before .root-at .ensures) (c .before .root .given .1)) (here at (after x))
 
 enum-told : tie.Need-enum-told Inv-loop μ-loop
 enum-told c = search needs
@@ -120,8 +120,8 @@ loop-again c =
     let x = c .before .before .before .before .before in
     let r = x .before .before in
     let at = r .before .before .before .before in
-    let none = top-none _ (sym (c .before .before .root-at .ensures) ∙ c .enum-told .given .1) in
-    going-on _ _ _ _ (at .loop .inv) (top r) (r .before .before .if1 .left) (judged-least _ _ _ _ _ _) none (after x)
+    let a = at .before .before .before .before .before .before .args in
+    going-on _ _ _ _ (at .loop .inv) (top r) (r .before .before .if1 .left) (judged-none (a .roots .now) (a .between) (a .limits .now) (a .above) (a .tops .now) (pathOf (r .read-slot .result)) (c .before .before .root-at .ensures) (c .enum-told .given .1)) (after x)
 
 without-path-requires-2 : tie.Need-without-path-requires-2 Inv-loop μ-loop
 without-path-requires-2 c κs = search needs
@@ -133,9 +133,7 @@ returns-3 : tie.Need-returns-3 Inv-loop μ-loop
 returns-3 c =
     let at = c .before .before in
     let w = c .without-path2 .ensures in
-    let z : at .loop .m ≡ 0 = omega arith in
-    rw (w .0, w .1 .0, w .1 .1)
-    (rw z at (going-refused _ _ _ _ (at .loop .inv) (c .before .loop-test .left) (here at (at .loop .inv .lies))))
+    rw (w .0, w .1 .0, w .1 .1) (going-refused _ _ _ _ (at .loop .inv) (c .before .loop-test .left) (here at (at .loop .inv .lies)))
 
 pub walk-spec : {M : Type 1} → statement M
 walk-spec =

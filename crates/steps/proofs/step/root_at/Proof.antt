@@ -1,19 +1,18 @@
 -- `root_at` answers the lowest root that a slot's path reaches. Assumes nothing.
 use borrow.Author.Needs.{needs}
-use mathlib.Core.Path.{_≡_, ap, _∙_}
+use mathlib.Core.Path.{_≡_}
 use native.Mathlib.Omega.{arith}
 use Prim.Native.Nat.{_+_, _-_}
-use lib.ListN.{take, drop, getD}
-use Rattle.policy.specs.Judging.{judgedRoot, topOf}
+use lib.ListN.{getD}
 use Rattle.steps.specs.Slots.{pathOf}
 use Rattle.steps.proofs.step.root_at.Statement.{statement}
 use Rattle.steps.proofs.step.root_at.Tie as tie
 
-array-read-wide : tie.Need-array-read-wide
-array-read-wide c = search needs
+array-read-end : tie.Need-array-read-end
+array-read-end c = search needs
 
-wide-requires : tie.Need-wide-requires
-wide-requires c κs = search needs
+cast-end : tie.Need-cast-end
+cast-end c = search needs
 
 add-end : tie.Need-add-end
 add-end c = search needs
@@ -33,19 +32,16 @@ lowest-root-requires c κs = search needs
 returns : tie.Need-returns
 unfolding pathOf
 returns c =
-    let a = c .before .before .before .before .args in
-    let k : c .before .before .before .wide .result + 1 - 1 ≡ getD (a .t1) 0 0 = omega (arith, c .before .before .before .wide .ensures) in
-    c .lowest-root .ensures
-    ∙ ap
-    (λ m. topOf (judgedRoot (a .roots .now) (a .between) (a .limits .now) (a .above) (a .tops .now) (take m (drop 1 (a .t1)))))
-    k
+    let s = c .before .before .before .args .t1 in
+    let k : getD s 0 0 + 1 - 1 ≡ getD s 0 0 = omega arith in
+    rw k at (c .lowest-root .ensures)
 
 pub root-at-spec : {M : Type 1} → statement M
 root-at-spec =
     tie.close
     (tie.spec
-    array-read-wide
-    wide-requires
+    array-read-end
+    cast-end
     add-end
     sub-lowest-root
     part-lowest-root-start
