@@ -1,12 +1,12 @@
 -- Laws on lists that the loops over bytes cite. Assumes nothing.
-use mathlib.Core.Path.{_≡_, refl, ap}
+use mathlib.Core.Path.{_≡_, refl, sym, ap, _∙_}
 use mathlib.Core.List.{List, [], _∷_, _++_}
 use Prim.Native.Nat.{ℕ, zero, suc, _+_, _-_, _≤_, _<_, zero-le}
-use native.Mathlib.Nat.{le-of-suc-le-suc, not-suc-le-zero, sub-self, sub-zero, suc-sub-suc}
+use native.Mathlib.Nat.{le-of-suc-le-suc, not-suc-le-zero, sub-self, sub-zero, suc-sub-suc, zero-add, suc-add}
 use native.Mathlib.Numerals.{add-one}
 use native.Mathlib.Omega.{arith}
-use lib.ListN.{length, take, drop, getD, set, replicate, length-drop}
-use lib.Seq.{paste, paste-suc, getD-drop}
+use lib.ListN.{length, take, drop, getD, set, replicate, length-drop, length-append, length-set}
+use lib.Seq.{paste, paste-suc, getD-drop, length-take-le, take-all, set-append-left}
 
 -- a turn's store takes the copy of i elements to the copy of one more
 copy-suc : (src dst : List ℕ) (i : ℕ) → i < length src → i < length dst → set (take i src ++ drop i dst) i (getD src i 0) ≡ take (suc i) src ++ drop (suc i) dst
@@ -25,6 +25,30 @@ copy-more room dst at i h k =
 pub paste-more : (d : List ℕ) (at : ℕ) (s : List ℕ) (j : ℕ) → at + j < length d → j < length s
     → set (paste d at s j) (at + j) (getD s j 0) ≡ paste d at s (j + 1)
 paste-more d at s j h k = rw add-one (paste-suc d at s j 0 h k)
+
+set-append-add : (xs ys : List ℕ) (n a : ℕ) → set (xs ++ ys) (length xs + n) a ≡ xs ++ set ys n a
+set-append-add [] ys n a = ap (λ (k : ℕ). set ys k a) (zero-add n)
+set-append-add (x ∷ xs) ys n a = ap (λ (k : ℕ). set (x ∷ (xs ++ ys)) k a) (suc-add (length xs) n) ∙ ap (λ (l : List ℕ). x ∷ l) (set-append-add xs ys n a)
+
+-- a store into what was pasted whole
+pub paste-set : (d : List ℕ) (at : ℕ) (k : List ℕ) (n j a : ℕ) → at + n ≤ length d → length k ≡ n → j < n → set (paste d at k n) (at + j) a ≡ paste d at (set k j a) n
+paste-set d at k n j a h l b =
+    let f : length (take at d) ≡ at = length-take-le at d (omega arith) in
+    let t : take n k ≡ k = take-all n k (omega arith) in
+    let u : take n (set k j a) ≡ set k j a = take-all n (set k j a) (simp length-set (omega arith)) in
+    let s : set (take at d ++ k) (at + j) a ≡ take at d ++ set k j a =
+    ap (λ (q : ℕ). set (take at d ++ k) (q + j) a) (sym f) ∙ set-append-add (take at d) k j a in
+    rw (t, u) (set-append-left (take at d ++ k) (drop (at + n) d) (at + j) a (simp length-append (omega arith)) ∙ ap (λ (x : List ℕ). x ++ drop (at + n) d) s)
+
+-- a child's two stores
+pub paste-child : (d room s : List ℕ) (at len i v : ℕ) → at + 17 ≤ length d → length s ≡ 17 → len < 16 → room ≡ paste d at s 17
+    → set (set room (at + (len + 1)) i) at v ≡ paste d at (set (set s (len + 1) i) 0 v) 17
+paste-child d room s at len i v h l b r =
+    let z : at + 0 ≡ at = omega arith in
+    ap (λ (x : List ℕ). set (set x (at + (len + 1)) i) at v) r
+    ∙ ap (λ (x : List ℕ). set x at v) (paste-set d at s 17 (len + 1) i h l (omega arith))
+    ∙ ap (λ (k : ℕ). set (paste d at (set s (len + 1) i) 17) k v) (sym z)
+    ∙ paste-set d at (set s (len + 1) i) 17 0 v h (simp length-set l) (omega arith)
 
 -- d with zeros from index a up to, not including, index e
 abbrev pub zeroed : ℕ → ℕ → List ℕ → List ℕ

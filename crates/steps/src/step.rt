@@ -42,10 +42,9 @@ fn put_child(room: &mut [u8], t: usize, s: [u8; Slot::BYTES], i: u8)
     ensures { λ _. ⌜ now (room .exit) ≡ paste (now (room .entry)) (17 * t) (set (set s (getD s 0 0 + 1) i) 0 (getD s 0 0 + 1)) 17 ⌝ }
 {
     let len = s[0] as usize;
-    let mut child = s;
-    child[len + 1] = i;
-    child[0] = s[0] + 1;
-    write_slot(room, t, child);
+    write_slot(room, t, s);
+    room[Slot::BYTES * t + (len + 1)] = i;
+    room[Slot::BYTES * t] = s[0] + 1;
 }
 
 // Lays the children of s's path in the slots from m on, and returns how many slots are then in use.
