@@ -12,7 +12,7 @@ use fields::u64_at;
 ghost use mathlib.Core.Path.{_≡_};
 ghost use Rattle.fields.specs.Fields.{stop, after};
 ghost use Rattle.fields.specs.Answers.{number, passed, passing, held, Emptied};
-ghost use Rattle.task.specs.Task.{timesP, purposeP, taskP, fresh-task};
+ghost use Rattle.task.specs.Task.{timesP, purposeP, taskP, fresh-host, fresh-task};
 ghost use Rattle.task.specs.Answers.{timed};
 
 // The host that is asked; none where its name has no bytes.
@@ -24,6 +24,15 @@ impl Host {
     pub const LEAST: usize = 0;
 
     pub const MOST: usize = 253;
+
+    // No host.
+    pub fn new() -> Host
+        ensures { λ r. ⌜ r ≡ fresh-host ⌝ }
+    {
+        Host {
+            name: Span { start: 0, end: 0 },
+        }
+    }
 }
 
 pub struct Task {
@@ -44,9 +53,7 @@ impl Task {
         Task {
             now: 0,
             budget: 0,
-            host: Host {
-                name: Span { start: 0, end: 0 },
-            },
+            host: Host::new(),
         }
     }
 }
