@@ -9,7 +9,7 @@ use lib.Dec.{eqb, leb, ltb}
 use lib.ListN.{length, getD}
 use Rattle.fields.specs.Fields.{Parsed, got, stop, after, countP, spanP, stringP, bigP, many, countedP, whole, byteP}
 use Rattle.names.specs.Names.{attrP, rdnP, nameP}
-use Rattle.lists.specs.Lists.{usageP, dnsNameP, rowP}
+use Rattle.lists.specs.Lists.{usageP, usagesP, dnsNameP, dnsNamesP, rowP}
 use Rattle.extensions.specs.Extensions.{flag, optionP, keyIdsP, pathLengthP, extensionsP}
 use Rattle.record.specs.Record.{paired, flagsP, datesP, headP, stringsP, namesP, recordP}
 use Rattle.certificates.specs.Certificates.{rootsP, bundleP}
@@ -153,8 +153,8 @@ module _ (s : List ℕ) where
   extensions f at =
       then (keyIdsP f s at) (key-ids f at) (λ k e.
       then (pathLengthP f s e) (path-length f e) (λ l g.
-      then (rowP 8 usageP s g) (listed 8 usageP usage g) (λ u h.
-      then (rowP 32 dnsNameP s h) (listed 32 dnsNameP dns-name h) (λ d i. goes _ _))))
+      then (usagesP s g) (listed 8 usageP usage g) (λ u h.
+      then (dnsNamesP s h) (listed 32 dnsNameP dns-name h) (λ d i. goes _ _))))
 
   a-record : (at : ℕ) → Stops (recordP s at)
   unfolding recordP

@@ -11,7 +11,7 @@ use Rattle.fields.specs.Fields.{Parsed, got, stop, after, countP, spanP, string
 use Rattle.fields.proofs.Counts.{count-read}
 use Rattle.fields.proofs.Strings.{span-read}
 use Rattle.names.specs.Names.{attrP, rdnP, nameP}
-use Rattle.lists.specs.Lists.{usageP, dnsNameP, rowP}
+use Rattle.lists.specs.Lists.{usageP, usagesP, dnsNameP, dnsNamesP, rowP}
 use Rattle.extensions.specs.Extensions.{flag, optionP, keyIdsP, pathLengthP, extensionsP}
 use Rattle.record.specs.Record.{paired, flagsP, datesP, headP, stringsP}
 
@@ -165,6 +165,6 @@ module _ (s : List ℕ) where
   extensions-onward flags at =
       onward-after (keyIdsP flags s at) _ (key-ids-onward flags at) (λ k e.
       onward-after (pathLengthP flags s e) _ (path-length-onward flags e) (λ p f.
-      onward-after (rowP 8 usageP s f) _ (row-onward usageP s usage-onward 8 f) (λ u g.
-      onward-after (rowP 32 dnsNameP s g) _ (row-onward dnsNameP s dns-name-onward 32 g) (λ d h.
+      onward-after (usagesP s f) _ (row-onward usageP s usage-onward 8 f) (λ u g.
+      onward-after (dnsNamesP s g) _ (row-onward dnsNameP s dns-name-onward 32 g) (λ d h.
       onward-got h _ h (omega arith)))))

@@ -10,7 +10,7 @@ use Rattle.fields.specs.declared.string.Span.{Span}
 use Rattle.fields.proofs.After.{after-got, got-is}
 use Rattle.fields.proofs.Counts.{byte-few}
 use Rattle.fields.proofs.Strings.{SpanRead, span-read}
-use Rattle.lists.specs.Lists.{usageP, dnsNameP, rowP}
+use Rattle.lists.specs.Lists.{usageP, usagesP, dnsNameP, dnsNamesP}
 use Rattle.lists.proofs.Meaning.{RowRead, row-read, row-each, usage-few, dns-name-bounded}
 use Rattle.extensions.specs.Extensions.{flag, optionP, keyIdsP, pathLengthP, extensionsP}
 use Rattle.extensions.specs.declared.KeyIds.{KeyIds}
@@ -72,8 +72,8 @@ unfolding extensionsP
 extensions-read flags s at x e h =
     let keys = after-got (keyIdsP flags s at) _ h in
     let path = after-got (pathLengthP flags s (keys .place)) _ (keys .next) in
-    let usages = after-got (rowP 8 usageP s (path .place)) _ (path .next) in
-    let names = after-got (rowP 32 dnsNameP s (usages .place)) _ (usages .next) in
+    let usages = after-got (usagesP s (path .place)) _ (path .next) in
+    let names = after-got (dnsNamesP s (usages .place)) _ (usages .next) in
     let u = row-read 8 usageP s _ _ _ (usages .first) in
     let n = row-read 32 dnsNameP s _ _ _ (names .first) in
     got-is (ExtensionsRead flags s at) (names .next)

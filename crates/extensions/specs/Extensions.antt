@@ -6,7 +6,7 @@ use mathlib.Core.List.{List}
 use lib.Dec.{eqb}
 use Rattle.fields.specs.Fields.{Parsed, got, after, byteP, spanP}
 use Rattle.fields.specs.declared.string.Span.{Span}
-use Rattle.lists.specs.Lists.{usageP, dnsNameP, rowP}
+use Rattle.lists.specs.Lists.{usagesP, dnsNamesP}
 use Rattle.extensions.specs.declared.KeyIds.{KeyIds}
 use Rattle.extensions.specs.declared.Extensions.{Extensions}
 
@@ -39,6 +39,6 @@ unfoldable pub extensionsP : ℕ → List ℕ → ℕ → Parsed Extensions
 extensionsP flags s at =
     after (keyIdsP flags s at) (λ keyIds e.
     after (pathLengthP flags s e) (λ pathLength f.
-    after (rowP 8 usageP s f) (λ usages g.
-    after (rowP 32 dnsNameP s g) (λ dnsNames h.
+    after (usagesP s f) (λ usages g.
+    after (dnsNamesP s g) (λ dnsNames h.
     got (record { «key_ids» = keyIds; «path_length» = pathLength; usages = usages; «dns_names» = dnsNames }) h))))

@@ -4,7 +4,7 @@ use fields::CountAt;
 use fields::Fault;
 use fields::Span;
 use fields::StringAt;
-use fields::count_at;
+use fields::byte_at;
 use fields::string_at;
 use lists::Row;
 use lists::RowAt;
@@ -23,7 +23,7 @@ pub struct KeyIds {
 }
 
 impl KeyIds {
-    pub const KEY_ID_LEAST: usize = 1;
+    pub const LEAST: usize = 1;
 
     pub const KEY_ID_MOST: usize = 64;
 
@@ -137,7 +137,7 @@ fn path_length_at(file: &[u8], at: usize, flags: usize) -> CountAt
     ensures { λ r. ⌜ counted r ≡ pathLengthP flags (now (file .entry)) at ⌝ }
 {
     if flags / 16 % 2 == 1 {
-        return count_at(file, at, 0, 255);
+        return byte_at(file, at);
     }
     CountAt::Got { count: 0, next: at }
 }
@@ -147,7 +147,7 @@ fn option_at(file: &[u8], at: usize, present: bool, most: usize) -> OptionAt
     ensures { λ r. ⌜ opted r ≡ optionP present most (now (file .entry)) at ⌝ }
 {
     if present {
-        match string_at(file, at, KeyIds::KEY_ID_LEAST, most) {
+        match string_at(file, at, KeyIds::LEAST, most) {
             StringAt::Got(span) => {
                 return OptionAt::Got {
                     span,

@@ -1,7 +1,7 @@
-// A count or a length: one byte, judged when it is read.
+// One byte: a count or a length, judged when it is read, or any.
 use crate::Fault;
 ghost use mathlib.Core.Path.{_≡_};
-ghost use Rattle.fields.specs.Fields.{countP};
+ghost use Rattle.fields.specs.Fields.{byteP, countP};
 ghost use Rattle.fields.specs.Answers.{counted};
 
 // A count, and the place past it.
@@ -28,4 +28,11 @@ pub fn count_at(file: &[u8], at: usize, least: usize, most: usize) -> CountAt
         count,
         next: at + 1,
     }
+}
+
+// Any byte, and the place past it.
+pub fn byte_at(file: &[u8], at: usize) -> CountAt
+    ensures { λ r. ⌜ counted r ≡ byteP (now (file .entry)) at ⌝ }
+{
+    count_at(file, at, 0, 255)
 }

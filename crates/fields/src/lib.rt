@@ -7,6 +7,7 @@ mod number;
 mod string;
 
 pub use count::CountAt;
+pub use count::byte_at;
 pub use count::count_at;
 pub use fault::Fault;
 pub use number::NumberAt;

@@ -5,14 +5,14 @@ use mathlib.Core.Path.{_≡_, sym, ap, _∙_}
 use mathlib.Core.List.{List, []}
 use lib.ListN.{getD}
 use borrow.Author.Tests.{le-ltb, lt-ltb}
-use Rattle.fields.specs.Fields.{Parsed, got, stop, spanP, stringP, bytesOf, many}
+use Rattle.fields.specs.Fields.{Parsed, got, stop, stringP, bytesOf, many}
 use Rattle.fields.specs.Answers.{passing}
 use Rattle.fields.specs.declared.string.Span.{Span}
 use Rattle.fields.proofs.After.{after-got}
 use Rattle.fields.proofs.Ends.{passing-stops, passing-got}
 use Rattle.fields.proofs.Many.{many-nth}
 use Rattle.fields.proofs.Strings.{SpanRead, span-read}
-use Rattle.lists.specs.Lists.{dnsNameP, itemP}
+use Rattle.lists.specs.Lists.{dnsSpanP, dnsNameP, itemP}
 use Rattle.lists.specs.declared.Row.{Row}
 use Rattle.lists.proofs.Meaning.{RowRead}
 
@@ -53,10 +53,10 @@ pub record Spelt (x : Parsed Span) (s : List ℕ) (name : List ℕ) : Type 0 whe
   pub bytes : bytesOf span s ≡ name
 
 -- a DNS name by its span
-dns-name-spelt : (s : List ℕ) (at : ℕ) (name : List ℕ) (e : ℕ) → dnsNameP s at ≡ got name e → Spelt (spanP 1 253 s at) s name
+dns-name-spelt : (s : List ℕ) (at : ℕ) (name : List ℕ) (e : ℕ) → dnsNameP s at ≡ got name e → Spelt (dnsSpanP s at) s name
 unfolding dnsNameP stringP
 dns-name-spelt s at name e h =
-    let t = after-got (spanP 1 253 s at) _ h in
+    let t = after-got (dnsSpanP s at) _ h in
     let read = span-read 1 253 s at (t .value) (t .place) (t .first) in
     let same : t .place ≡ t .value .end = sym (read .ends) in
     record {
@@ -68,8 +68,8 @@ dns-name-spelt s at name e h =
     }
 
 pub dns-name-read : (most : ℕ) (s : List ℕ) (row : Row) (e : ℕ) (t : RowRead most dnsNameP s row e)
-    → (i : ℕ) → i < row .count → Spelt (itemP dnsNameP (spanP 1 253) row i s) s (getD (t .things) i [])
+    → (i : ℕ) → i < row .count → Spelt (itemP dnsNameP dnsSpanP row i s) s (getD (t .things) i [])
 dns-name-read most s row e t i l =
     let n = many-nth dnsNameP s [] i (row .count) (row .first) (t .things) e l (t .are) in
-    let there = item-there dnsNameP (spanP 1 253) s row i (n .place) l (n .placed) in
+    let there = item-there dnsNameP dnsSpanP s row i (n .place) l (n .placed) in
     rw there (dns-name-spelt s (n .place) (getD (t .things) i []) (n .past) (n .is))

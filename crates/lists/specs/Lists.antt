@@ -4,14 +4,18 @@ use Prim.Native.Nat.{ℕ}
 use mathlib.Core.Bool.{cond}
 use mathlib.Core.List.{List}
 use lib.Dec.{leb, ltb}
-use Rattle.fields.specs.Fields.{Parsed, got, stop, after, countP, byteP, stringP, many}
+use Rattle.fields.specs.Fields.{Parsed, got, stop, after, countP, byteP, spanP, stringP, many}
+use Rattle.fields.specs.declared.string.Span.{Span}
 use Rattle.lists.specs.declared.Row.{Row}
 
 -- a usage: a byte 0..7, judged when it is read
 unfoldable pub usageP : List ℕ → ℕ → Parsed ℕ
 usageP s at = after (byteP s at) (λ u e. cond (leb u 7) (got u e) (stop 8))
 
--- a DNS name: 1..253 bytes
+-- a DNS name: 1..253 bytes; where they stand, and the bytes
+abbrev pub dnsSpanP : List ℕ → ℕ → Parsed Span
+dnsSpanP = spanP 1 253
+
 unfoldable pub dnsNameP : List ℕ → ℕ → Parsed (List ℕ)
 dnsNameP = stringP 1 253
 
@@ -21,6 +25,14 @@ rowP most p s at =
     after (countP 0 most s at) (λ n e.
     after (many p n s e) (λ _ f.
     got (record { count = n; first = e }) f))
+
+-- 0..8 usages
+abbrev pub usagesP : List ℕ → ℕ → Parsed Row
+usagesP = rowP 8 usageP
+
+-- 0..32 DNS names
+abbrev pub dnsNamesP : List ℕ → ℕ → Parsed Row
+dnsNamesP = rowP 32 dnsNameP
 
 -- thing i of a list, by q, where those before it are read by p; a bad count where the list is shorter
 unfoldable pub itemP : {A B : Type 0} → (List ℕ → ℕ → Parsed A) → (List ℕ → ℕ → Parsed B) → Row → ℕ → List ℕ → Parsed B

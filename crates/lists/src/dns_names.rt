@@ -8,14 +8,14 @@ use fields::StringAt;
 use fields::count_at;
 use fields::string_at;
 ghost use mathlib.Core.Path.{_≡_};
-ghost use Rattle.fields.specs.Fields.{many, spanP};
+ghost use Rattle.fields.specs.Fields.{many};
 ghost use Rattle.fields.specs.Answers.{passed, passing, spanned};
-ghost use Rattle.lists.specs.Lists.{dnsNameP, rowP, itemP};
+ghost use Rattle.lists.specs.Lists.{dnsSpanP, dnsNameP, dnsNamesP, itemP};
 ghost use Rattle.lists.specs.Answers.{listed};
 
 // The DNS names at a place.
 pub fn dns_names_at(file: &[u8], at: usize) -> RowAt
-    ensures { λ r. ⌜ listed r ≡ rowP 32 dnsNameP (now (file .entry)) at ⌝ }
+    ensures { λ r. ⌜ listed r ≡ dnsNamesP (now (file .entry)) at ⌝ }
 {
     match count_at(file, at, Row::DNS_NAMES_LEAST, Row::DNS_NAMES_MOST) {
         CountAt::Got { count, next: first } => match dns_names_past(file, first, count) {
@@ -37,7 +37,7 @@ pub fn dns_names_at(file: &[u8], at: usize) -> RowAt
 
 // DNS name i of a record's DNS names.
 pub fn dns_name(file: &[u8], names: Row, i: usize) -> StringAt
-    ensures { λ r. ⌜ spanned r ≡ itemP dnsNameP (spanP 1 253) names i (now (file .entry)) ⌝ }
+    ensures { λ r. ⌜ spanned r ≡ itemP dnsNameP dnsSpanP names i (now (file .entry)) ⌝ }
 {
     if names.count <= i {
         return StringAt::Stop(Fault::BadCount);
@@ -72,8 +72,9 @@ fn dns_names_past(file: &[u8], first: usize, n: usize) -> Past
     Past::Got(at)
 }
 
-fn dns_name_at(file: &[u8], at: usize) -> StringAt
-    ensures { λ r. ⌜ spanned r ≡ spanP 1 253 (now (file .entry)) at ⌝ }
+// Where the bytes of the DNS name at a place stand.
+pub fn dns_name_at(file: &[u8], at: usize) -> StringAt
+    ensures { λ r. ⌜ spanned r ≡ dnsSpanP (now (file .entry)) at ⌝ }
 {
     string_at(file, at, Row::DNS_NAME_LEAST, Row::DNS_NAME_MOST)
 }

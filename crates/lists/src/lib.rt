@@ -4,9 +4,11 @@ mod dns_names;
 mod usages;
 
 pub use dns_names::dns_name;
+pub use dns_names::dns_name_at;
 pub use dns_names::dns_names_at;
 use fields::Fault;
 pub use usages::usage;
+pub use usages::usage_at;
 pub use usages::usages_at;
 
 // A list that was read: how many things it has, and where the first one stands.

@@ -4,16 +4,17 @@ use crate::RowAt;
 use fields::CountAt;
 use fields::Fault;
 use fields::Past;
+use fields::byte_at;
 use fields::count_at;
 ghost use mathlib.Core.Path.{_≡_};
 ghost use Rattle.fields.specs.Fields.{many};
 ghost use Rattle.fields.specs.Answers.{counted, passed, passing};
-ghost use Rattle.lists.specs.Lists.{usageP, rowP, itemP};
+ghost use Rattle.lists.specs.Lists.{usageP, usagesP, itemP};
 ghost use Rattle.lists.specs.Answers.{listed};
 
 // The usages at a place.
 pub fn usages_at(file: &[u8], at: usize) -> RowAt
-    ensures { λ r. ⌜ listed r ≡ rowP 8 usageP (now (file .entry)) at ⌝ }
+    ensures { λ r. ⌜ listed r ≡ usagesP (now (file .entry)) at ⌝ }
 {
     match count_at(file, at, Row::USAGES_LEAST, Row::USAGES_MOST) {
         CountAt::Got { count, next: first } => match usages_past(file, first, count) {
@@ -70,11 +71,11 @@ fn usages_past(file: &[u8], first: usize, n: usize) -> Past
     Past::Got(at)
 }
 
-// A usage is a bad value above the last, judged when it is read.
-fn usage_at(file: &[u8], at: usize) -> CountAt
+// The usage at a place: a bad value above the last, judged when it is read.
+pub fn usage_at(file: &[u8], at: usize) -> CountAt
     ensures { λ r. ⌜ counted r ≡ usageP (now (file .entry)) at ⌝ }
 {
-    match count_at(file, at, 0, 255) {
+    match byte_at(file, at) {
         CountAt::Got { count: usage, next } => {
             if Row::USAGE_MOST < usage {
                 return CountAt::Stop(Fault::BadValue);

@@ -1,26 +1,18 @@
 -- One thing of a record's lists: usage i, and the bytes of DNS name i, are what its certificate says there. Assumes nothing.
 use Prim.Native.Nat.{ℕ, _<_}
-use mathlib.Core.Path.{_≡_, ap, _∙_}
 use mathlib.Core.List.{List, []}
-use lib.ListN.{length, getD}
-use Rattle.fields.specs.Fields.{spanP}
-use Rattle.lists.specs.Lists.{usageP, dnsNameP, itemP}
+use lib.ListN.{getD}
+use Rattle.lists.specs.Lists.{usageP, dnsSpanP, dnsNameP, itemP}
 use Rattle.lists.proofs.Items.{Found, item-read, Spelt, dns-name-read}
 use Rattle.record.specs.Certificate.{certificateOf}
 use Rattle.record.specs.declared.Record.{Record}
 use Rattle.record.proofs.Meaning.{RecordRead, says-usages, says-dns-names}
 
 module _ (s : List ℕ) (r : Record) (e : ℕ) (t : RecordRead s r e) where
-  pub usages-counted : length (certificateOf r s .usages) ≡ r .extensions .usages .count
-  usages-counted = ap length (says-usages s r e t) ∙ t .extensions .usages .as-many
-
-  pub dns-names-counted : length (certificateOf r s .dns-names) ≡ r .extensions .«dns_names» .count
-  dns-names-counted = ap length (says-dns-names s r e t) ∙ t .extensions .dns-names .as-many
-
   pub says-usage : (i : ℕ) → i < r .extensions .usages .count
       → Found (itemP usageP usageP (r .extensions .usages) i s) (getD (certificateOf r s .usages) i 0)
   says-usage i l = rw (says-usages s r e t) (item-read 8 usageP s _ _ (t .extensions .usages) 0 i l)
 
   pub says-dns-name : (i : ℕ) → i < r .extensions .«dns_names» .count
-      → Spelt (itemP dnsNameP (spanP 1 253) (r .extensions .«dns_names») i s) s (getD (certificateOf r s .dns-names) i [])
+      → Spelt (itemP dnsNameP dnsSpanP (r .extensions .«dns_names») i s) s (getD (certificateOf r s .dns-names) i [])
   says-dns-name i l = rw (says-dns-names s r e t) (dns-name-read 32 s _ _ (t .extensions .dns-names) i l)

@@ -12,7 +12,7 @@ use Rattle.names.specs.Names.{Attr, nameP}
 use Rattle.extensions.specs.Extensions.{extensionsP}
 use Rattle.extensions.proofs.Meaning.{ExtensionsRead, extensions-read}
 use Rattle.record.specs.Record.{paired, flagsP, datesP, headP, stringsP, namesP, recordP}
-use Rattle.record.specs.Certificate.{certificateOf, certificateP, listOf}
+use Rattle.record.specs.Certificate.{certificateOf, listOf}
 use Rattle.record.specs.declared.head.Head.{Head}
 use Rattle.record.specs.declared.strings.Strings.{Strings}
 use Rattle.record.specs.declared.parties.Names.{Names}
@@ -120,10 +120,6 @@ module _ (s : List ℕ) (at : ℕ) (r : Record) (e : ℕ) (h : recordP s at ≡ 
         names = names-read s _ _ _ (names .first);
         extensions = extensions-read _ s _ _ _ (extensions .first);
       })
-
-  pub certificate-read : certificateP s at ≡ got (certificateOf r s) e
-  unfolding certificateP
-  certificate-read = rw h
 
 -- ---- what the certificate says of the names and lists
 

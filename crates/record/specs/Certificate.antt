@@ -3,12 +3,11 @@ use Prim.Native.Nat.{ℕ}
 use mathlib.Core.Bool.{Bool, cond}
 use mathlib.Core.List.{List, []}
 use mathlib.Core.Option.{Option, none, some}
-use Rattle.fields.specs.Fields.{Parsed, got, stop, after, many, bytesOf}
+use Rattle.fields.specs.Fields.{Parsed, got, stop, many, bytesOf}
 use Rattle.names.specs.Names.{Attr, nameP}
 use Rattle.lists.specs.Lists.{usageP, dnsNameP}
 use Rattle.extensions.specs.Extensions.{flag}
 use Rattle.record.specs.declared.Record.{Record}
-use Rattle.record.specs.Record.{recordP}
 
 pub record Certificate : Type 0 where
   pub version : ℕ
@@ -56,7 +55,3 @@ certificateOf r s =
       usages = listOf (many usageP (r .extensions .usages .count) s (r .extensions .usages .first));
       dns-names = listOf (many dnsNameP (r .extensions .«dns_names» .count) s (r .extensions .«dns_names» .first));
     }
-
--- the certificate whose record stands at a place
-unfoldable pub certificateP : List ℕ → ℕ → Parsed Certificate
-certificateP s at = after (recordP s at) (λ r e. got (certificateOf r s) e)

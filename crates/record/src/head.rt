@@ -2,7 +2,7 @@
 use fields::CountAt;
 use fields::Fault;
 use fields::NumberAt;
-use fields::count_at;
+use fields::byte_at;
 use fields::u64_at;
 ghost use mathlib.Core.Path.{_≡_};
 ghost use Rattle.record.specs.Record.{flagsP, datesP, headP};
@@ -76,11 +76,11 @@ pub(crate) fn head_at(file: &[u8], at: usize) -> HeadAt
 fn flags_at(file: &[u8], at: usize) -> FlagsAt
     ensures { λ r. ⌜ flagged r ≡ flagsP (now (file .entry)) at ⌝ }
 {
-    match count_at(file, at, 0, 255) {
+    match byte_at(file, at) {
         CountAt::Got {
             count: version,
             next: a,
-        } => match count_at(file, a, 0, 255) {
+        } => match byte_at(file, a) {
             CountAt::Got { count: flags, next } => {
                 if flags / 8 % 2 < flags / 16 % 2 {
                     return FlagsAt::Stop(Fault::BadValue);

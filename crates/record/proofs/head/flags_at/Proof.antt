@@ -3,58 +3,57 @@
 use mathlib.Core.Path.{sym, ap, _∙_}
 use borrow.Author.Tests.{lt-ltb, le-ltb}
 use Rattle.fields.specs.Answers.{counted}
-use Rattle.fields.specs.Fields.{byteP}
 use Rattle.record.specs.Record.{flagsP}
 use Rattle.record.proofs.Flags.{paired-test}
 use borrow.Author.Needs.{needs}
 use Rattle.record.proofs.head.flags_at.Statement.{statement}
 use Rattle.record.proofs.head.flags_at.Tie as tie
 
-count-at-requires : tie.Need-count-at-requires
-count-at-requires c κs = search needs
+byte-at-requires : tie.Need-byte-at-requires
+byte-at-requires c κs = search needs
 
 enum-known-version : tie.Need-enum-known-version
 enum-known-version c = search needs
 
-count-at-requires-2 : tie.Need-count-at-requires-2
-count-at-requires-2 c κs = search needs
+byte-at-requires-2 : tie.Need-byte-at-requires-2
+byte-at-requires-2 c κs = search needs
 
 enum-known-flags : tie.Need-enum-known-flags
 enum-known-flags c = search needs
 
 returns : tie.Need-returns
-unfolding flagsP byteP
+unfolding flagsP
 returns c =
     let t = c .before .before .before .before in
     let v = t .before .before in
     rw (
-      sym (v .before .before .count-at .ensures) ∙ ap counted (v .version .given .1),
-      sym (t .count-at2 .ensures) ∙ ap counted (c .before .before .flags .given .1),
+      sym (v .before .before .byte-at .ensures) ∙ ap counted (v .version .given .1),
+      sym (t .byte-at2 .ensures) ∙ ap counted (c .before .before .flags .given .1),
       paired-test,
       lt-ltb _ _ (c .if1 .taken),
     )
 
 returns-2 : tie.Need-returns-2
-unfolding flagsP byteP
+unfolding flagsP
 returns-2 c =
     let t = c .before .before .before .before .before in
     let v = t .before .before in
     rw (
-      sym (v .before .before .count-at .ensures) ∙ ap counted (v .version .given .1),
-      sym (t .count-at2 .ensures) ∙ ap counted (c .before .before .before .flags .given .1),
+      sym (v .before .before .byte-at .ensures) ∙ ap counted (v .version .given .1),
+      sym (t .byte-at2 .ensures) ∙ ap counted (c .before .before .before .flags .given .1),
       paired-test,
       le-ltb _ _ (c .before .if1 .left),
       lt-ltb _ _ (c .if2 .taken),
     )
 
 returns-3 : tie.Need-returns-3
-unfolding flagsP byteP
+unfolding flagsP
 returns-3 c =
     let t = c .before .before .before .before .before in
     let v = t .before .before in
     rw (
-      sym (v .before .before .count-at .ensures) ∙ ap counted (v .version .given .1),
-      sym (t .count-at2 .ensures) ∙ ap counted (c .before .before .before .flags .given .1),
+      sym (v .before .before .byte-at .ensures) ∙ ap counted (v .version .given .1),
+      sym (t .byte-at2 .ensures) ∙ ap counted (c .before .before .before .flags .given .1),
       paired-test,
       le-ltb _ _ (c .before .if1 .left),
       le-ltb _ _ (c .if2 .left),
@@ -64,29 +63,29 @@ enum-known-fault : tie.Need-enum-known-fault
 enum-known-fault c = search needs
 
 returns-4 : tie.Need-returns-4
-unfolding flagsP byteP
+unfolding flagsP
 returns-4 c =
     let t = c .before .before .before in
     let v = t .before .before in
     rw (
-      sym (v .before .before .count-at .ensures) ∙ ap counted (v .version .given .1),
-      sym (t .count-at2 .ensures) ∙ ap counted (c .before .fault .given .1),
+      sym (v .before .before .byte-at .ensures) ∙ ap counted (v .version .given .1),
+      sym (t .byte-at2 .ensures) ∙ ap counted (c .before .fault .given .1),
     )
 
 enum-known-fault-2 : tie.Need-enum-known-fault-2
 enum-known-fault-2 c = search needs
 
 returns-5 : tie.Need-returns-5
-unfolding flagsP byteP
-returns-5 c = rw (sym (c .before .before .before .count-at .ensures) ∙ ap counted (c .before .fault2 .given .1))
+unfolding flagsP
+returns-5 c = rw (sym (c .before .before .before .byte-at .ensures) ∙ ap counted (c .before .fault2 .given .1))
 
 pub flags-at-spec : {M : Type 1} → statement M
 flags-at-spec =
     tie.close
     (tie.spec
-    count-at-requires
+    byte-at-requires
     enum-known-version
-    count-at-requires-2
+    byte-at-requires-2
     enum-known-flags
     returns
     returns-2
