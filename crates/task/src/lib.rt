@@ -6,6 +6,7 @@ use fields::NumberAt;
 use fields::Past;
 use fields::Span;
 use fields::StringAt;
+use fields::byte_at;
 use fields::count_at;
 use fields::string_at;
 use fields::u64_at;
@@ -153,7 +154,7 @@ fn times_at(file: &[u8], at: usize) -> TimesAt
 fn purpose_at(file: &[u8], at: usize) -> Past
     ensures { λ r. ⌜ passed r ≡ passing (purposeP (now (file .entry)) at) ⌝ }
 {
-    match count_at(file, at, 0, 255) {
+    match byte_at(file, at) {
         CountAt::Got {
             count: purpose,
             next,
