@@ -12,7 +12,7 @@ use borrow.Author.Tests.{eq-eqb, ne-eqb}
 use Rattle.fields.specs.Fields.{Parsed, got, stop, after, countP, many, countedP}
 use Rattle.fields.proofs.Many.{many-length}
 use Rattle.same.specs.Same.{places}
-use Rattle.same.specs.Answers.{bothSame}
+use Rattle.same.specs.Answers.{bothRead}
 use Rattle.same.specs.Walks.{walk}
 use Rattle.same.specs.declared.walk.Walk.{Walk}
 use Rattle.same.specs.declared.walk.Walk.the-variants.{On, Differ}
@@ -37,7 +37,7 @@ through-test : (t : Bool) (e f : ℕ) → through (cond t (On e f) Differ) ≡ t
 through-test true e f = refl
 through-test false e f = refl
 
-pub walk-both : {A : Type 0} (q : A → A → Bool) (x y : Parsed A) → through (walk q x y) ≡ bothSame q x y
+pub walk-both : {A : Type 0} (q : A → A → Bool) (x y : Parsed A) → through (walk q x y) ≡ bothRead q x y
 walk-both q (got x e) (got y f) = through-test (q x y) e f
 walk-both q (got x e) (stop r) = refl
 walk-both q (stop r) y = refl
