@@ -85,7 +85,7 @@ fn related(question: &[u8], flag: &[u8], a: &[u8], b: &[u8]) -> usize {
     if 5 < which {
         return UNKNOWN;
     }
-    say::related(relation(which, a, b, normalise == 1))
+    relation(which, a, b, normalise == 1).number() as usize
 }
 
 fn relation(which: usize, a: &[u8], b: &[u8], normalise: bool) -> Related {

@@ -2,7 +2,6 @@
 use crate::lines::part;
 use libc::STDOUT_FILENO;
 use policy::Top;
-use same::Related;
 use text::Normalized;
 
 // A reply is a number: 0 is no, 1 is yes, a fault has its own up to 10, and this one is that there is no such question.
@@ -12,15 +11,7 @@ pub fn yes_no(yes: bool) -> usize {
     if yes { 1 } else { 0 }
 }
 
-pub fn related(r: Related) -> usize {
-    match r {
-        Related::No => 0,
-        Related::Yes => 1,
-        Related::Stop(fault) => fault.number() as usize,
-    }
-}
-
-pub fn reply(label: &[u8], number: usize) {
+pub(crate) fn reply(label: &[u8], number: usize) {
     put(label);
     put(b": ");
     put(part(b"no|yes|2|3|4|5|6|7|8|9|10|unknown question", b'|', number));
