@@ -20,7 +20,7 @@ use text::match_name;
 use text::normalize_string;
 
 // Answers a line, with what stands behind its question.
-pub fn answer(line: &[u8]) {
+pub(crate) fn answer(line: &[u8]) {
     let mut a = io::buffer();
     let mut b = io::buffer();
     let mut c = io::buffer();
