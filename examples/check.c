@@ -1,5 +1,5 @@
-/* check CARD: asks the library about a card file, and prints the reply in words, the paths that wait after the first step, and
-   whether one name written in two ways is the same name. */
+/* check CARD: asks the library about a card file, and prints the reply in words, the paths that wait after the first step where
+   there is a search, and whether one name written in two ways is the same name. */
 #include <inttypes.h>
 #include <stdio.h>
 
@@ -78,8 +78,8 @@ int main(int count, char **words)
     }
     fclose(card);
     print_answer(savuneco_search(file, len, room, sizeof room));
-    savuneco_paused(file, len, 1, room, sizeof room);
-    print_waiting(room);
+    if (savuneco_paused(file, len, 1, room, sizeof room).number <= SAVUNECO_EXHAUSTED)
+        print_waiting(room);
     print_names();
     return 0;
 }

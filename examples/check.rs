@@ -1,10 +1,11 @@
-//! `check CARD`: asks the library about a card file, and prints the reply in words, the paths that wait after the first step, and
-//! whether one name written in two ways is the same name. It prints what `check.c` prints.
+//! `check CARD`: asks the library about a card file, and prints the reply in words, the paths that wait after the first step where
+//! there is a search, and whether one name written in two ways is the same name. It prints what `check.c` prints.
 
 /// The library as safe Rust: a slice is valid for its length, and a `&mut` one overlaps nothing, so every call keeps what the header asks.
 mod savuneco {
     pub const SLOT: usize = 17;
     pub const ROOM: usize = 106 * SLOT;
+    pub const EXHAUSTED: u8 = 2;
 
     #[repr(C)]
     pub struct Answer {
@@ -98,7 +99,8 @@ fn main() {
     };
     let mut room = [0; savuneco::ROOM];
     println!("{}", in_words(&savuneco::search(&file, &mut room)));
-    savuneco::paused(&file, 1, &mut room);
-    println!("after the first step these paths wait, the next one last:{}", waiting(&room));
+    if savuneco::paused(&file, 1, &mut room).number <= savuneco::EXHAUSTED {
+        println!("after the first step these paths wait, the next one last:{}", waiting(&room));
+    }
     println!("Bembo  Roman and bembo roman: {} in normal form, {} as they stand", alike(true), alike(false));
 }

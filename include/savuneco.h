@@ -54,8 +54,9 @@ typedef struct {
     uint8_t path[SAVUNECO_PLACES]; /* places in the bundle, the host's own certificate first; 0 past the length */
 } savuneco_answer;
 
-/* Searches the file's certificates with the file's own budget. The first path in the order of paths that reaches a root under the
-   policy is accepted, with its lowest such root. A file that can't be read gets 4 to 9, and an empty bundle 3.
+/* Searches the file's certificates with the file's own budget: it takes at most so many steps, and nothing else bounds its time.
+   The first path in the order of paths that reaches a root under the policy is accepted, with its lowest such root. A file that
+   can't be read gets 4 to 9, and an empty bundle 3.
 
    The room is used as slots of 17 bytes; savuneco_slots says how many are needed, and with fewer whole slots the reply is 10.
    After replies 0, 1 and 2 the needed slots are all zero and every other byte of the room is as it was; after every other reply
@@ -63,8 +64,9 @@ typedef struct {
 savuneco_answer savuneco_search(const uint8_t *file, size_t file_len, uint8_t *room, size_t room_len);
 
 /* The same with budget k in place of the file's own, and after replies 0, 1 and 2 the needed slots hold the paths that wait then:
-   those that were not taken, and whose beginning without the last place was. The last one to be taken stands in slot 0, the next
-   one in the highest slot that is used; in a slot the length stands first, then the places; unused places and slots are zero. */
+   those that were not taken, and whose beginning without the last place was; where k is 0, the host's own certificate alone. The
+   last one to be taken stands in slot 0, the next one in the highest slot that is used; in a slot the length stands first, then
+   the places; unused places and slots are zero. */
 savuneco_answer savuneco_paused(const uint8_t *file, size_t file_len, uint64_t k, uint8_t *room, size_t room_len);
 
 /* The slots that a bundle of n certificates needs: 0, 1, 1, 2, 4, 7, 11, 16, 22, 29, 37, 46, 56, 67, 79, 92, 106 for n = 0 to 16,
