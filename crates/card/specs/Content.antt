@@ -80,11 +80,11 @@ there c (root i) = ltb i (length (c .roots))
 there c (bundled i) = ltb i (length (c .bundle))
 
 -- one row per issuer, roots first
-abbrev pub rowOf : Content → Issuer → ℕ
-rowOf c (root i) = i
-rowOf c (bundled i) = length (c .roots) + i
+abbrev pub issuerRow : Content → Issuer → ℕ
+issuerRow c (root i) = i
+issuerRow c (bundled i) = length (c .roots) + i
 
 -- an issuer signed bundle place j: verdict 1 in its row, one column per bundle subject
 unfoldable pub signed : Content → Issuer → ℕ → Bool
 signed c i j =
-    there c i && ltb j (length (c .bundle)) && eqb (getD (c .verdicts) (rowOf c i * length (c .bundle) + j) 0) 1
+    there c i && ltb j (length (c .bundle)) && eqb (getD (c .verdicts) (issuerRow c i * length (c .bundle) + j) 0) 1

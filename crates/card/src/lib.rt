@@ -10,7 +10,7 @@ use certificates::roots_after;
 use fields::CountAt;
 use fields::Fault;
 use fields::Past;
-use fields::count_at;
+use fields::byte_at;
 pub use task::Host;
 pub use task::Task;
 use task::task_after;
@@ -99,7 +99,7 @@ fn edition_past(file: &[u8]) -> Past
     if Card::MOST < file.len() {
         return Past::Stop(Fault::TooLong);
     }
-    match count_at(file, 0, 0, 255) {
+    match byte_at(file, 0) {
         CountAt::Got {
             count: edition,
             next,

@@ -32,7 +32,7 @@ module _ {A : Type 0} where
   onward-judged true x r h = h
   onward-judged {n} false x r h = onward-stop n r
 
-  pub no-earlier : {at : ℕ} {x : Parsed A} → Onward (at + 1) x → Onward at x
+  no-earlier : {at : ℕ} {x : Parsed A} → Onward (at + 1) x → Onward at x
   no-earlier h = record { ends = λ a e q. omega (arith, h .ends a e q) }
 
 module _ {A B : Type 0} where
@@ -60,7 +60,7 @@ module _ (s : List ℕ) where
   big-onward width at = onward-judged (leb (at + width) (length s)) _ 6 (onward-got at _ (at + width) (omega arith))
 
 module _ {A : Type 0} (p : List ℕ → ℕ → Parsed A) (s : List ℕ) (on : (at : ℕ) → Onward at (p s at)) where
-  pub many-onward : (n at : ℕ) → Onward at (many p n s at)
+  many-onward : (n at : ℕ) → Onward at (many p n s at)
   unfolding many
   many-onward zero at = onward-got at _ at (omega arith)
   many-onward (suc n) at =

@@ -66,7 +66,7 @@ module _ {A : Type 0} (p : List ℕ → ℕ → Parsed A) (s : List ℕ) (d : A)
         by-places a m h l k g zero (suc j) v w = omega (arith, h .before, k j (omega arith))
         by-places a m h l k g (suc i) (suc j) v w = g i j (omega arith) (omega arith)
 
-    pub marks-apart : (n at : ℕ) (l : List A) (e : ℕ) → many p n s at ≡ got l e → (i j : ℕ) → i < n → j < n
+    marks-apart : (n at : ℕ) (l : List A) (e : ℕ) → many p n s at ≡ got l e → (i j : ℕ) → i < n → j < n
         → mark (getD l i d) ≡ mark (getD l j d) → i ≡ j
     marks-apart n at l e h i j v w q = by-order (ltb i j) (ltb j i) refl refl
       where
@@ -86,7 +86,7 @@ names-inside s at n e h =
     let second = name-onward s (issuer .place) .ends (subject .value) (subject .place) (subject .first) in
     got-is (λ (n : Names) e. (n .issuer ≡ at) × (at < e)) (subject .next) (refl, omega arith)
 
-pub record-inside : (s : List ℕ) (at : ℕ) (r : Record) (e : ℕ) → recordP s at ≡ got r e → Inside at (r .names .issuer) e
+record-inside : (s : List ℕ) (at : ℕ) (r : Record) (e : ℕ) → recordP s at ≡ got r e → Inside at (r .names .issuer) e
 unfolding recordP
 record-inside s at r e h =
     let head = after-got (headP s at) _ h in

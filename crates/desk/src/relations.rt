@@ -1,10 +1,9 @@
 // The relations of two encoded attributes, RDNs or names for C: 0 is no, 1 is yes, else the number of the first bad argument's fault.
-use same::Related;
 ghost use mathlib.Core.Path.{_≡_};
 ghost use Rattle.fields.specs.Fields.{whole};
 ghost use Rattle.names.specs.Names.{attrP, rdnP, nameP};
 ghost use Rattle.same.specs.Same.{sameAttr, sameRdn, sameDn};
-ghost use Rattle.same.specs.Answers.{said, asked};
+ghost use Rattle.same.specs.Answers.{asked};
 ghost use Rattle.subtree.specs.Subtree.{rdnHasName, isSubtreeRdn, isSubtreeOf};
 ghost use Rattle.desk.specs.Leaves.{flagged};
 
@@ -13,7 +12,7 @@ ghost use Rattle.desk.specs.Leaves.{flagged};
 pub extern "C" fn savuneco_same_attr(a: &[u8], b: &[u8], normalise: u8) -> u8
     ensures { λ r. ⌜ r ≡ asked (sameAttr (flagged normalise)) (whole attrP (now (a .entry))) (whole attrP (now (b .entry))) ⌝ }
 {
-    number_of(same::same_attr(a, b, normalise != 0))
+    same::same_attr(a, b, normalise != 0).number()
 }
 
 // As many attributes, the same place by place.
@@ -21,7 +20,7 @@ pub extern "C" fn savuneco_same_attr(a: &[u8], b: &[u8], normalise: u8) -> u8
 pub extern "C" fn savuneco_same_rdn(a: &[u8], b: &[u8], normalise: u8) -> u8
     ensures { λ r. ⌜ r ≡ asked (sameRdn (flagged normalise)) (whole rdnP (now (a .entry))) (whole rdnP (now (b .entry))) ⌝ }
 {
-    number_of(same::same_rdn(a, b, normalise != 0))
+    same::same_rdn(a, b, normalise != 0).number()
 }
 
 // As many RDNs, the same place by place.
@@ -29,7 +28,7 @@ pub extern "C" fn savuneco_same_rdn(a: &[u8], b: &[u8], normalise: u8) -> u8
 pub extern "C" fn savuneco_same_dn(a: &[u8], b: &[u8], normalise: u8) -> u8
     ensures { λ r. ⌜ r ≡ asked (sameDn (flagged normalise)) (whole nameP (now (a .entry))) (whole nameP (now (b .entry))) ⌝ }
 {
-    number_of(same::same_dn(a, b, normalise != 0))
+    same::same_dn(a, b, normalise != 0).number()
 }
 
 // Whether some attribute of an RDN, the first argument, is the same as the second.
@@ -37,7 +36,7 @@ pub extern "C" fn savuneco_same_dn(a: &[u8], b: &[u8], normalise: u8) -> u8
 pub extern "C" fn savuneco_rdn_has_name(a: &[u8], b: &[u8], normalise: u8) -> u8
     ensures { λ r. ⌜ r ≡ asked (rdnHasName (flagged normalise)) (whole rdnP (now (a .entry))) (whole attrP (now (b .entry))) ⌝ }
 {
-    number_of(subtree::rdn_has_name(a, b, normalise != 0))
+    subtree::rdn_has_name(a, b, normalise != 0).number()
 }
 
 // No more attributes, and the second RDN has each of the first's.
@@ -45,7 +44,7 @@ pub extern "C" fn savuneco_rdn_has_name(a: &[u8], b: &[u8], normalise: u8) -> u8
 pub extern "C" fn savuneco_is_subtree_rdn(a: &[u8], b: &[u8], normalise: u8) -> u8
     ensures { λ r. ⌜ r ≡ asked (isSubtreeRdn (flagged normalise)) (whole rdnP (now (a .entry))) (whole rdnP (now (b .entry))) ⌝ }
 {
-    number_of(subtree::is_subtree_rdn(a, b, normalise != 0))
+    subtree::is_subtree_rdn(a, b, normalise != 0).number()
 }
 
 // No more RDNs, each a subtree of the one at its place.
@@ -53,16 +52,5 @@ pub extern "C" fn savuneco_is_subtree_rdn(a: &[u8], b: &[u8], normalise: u8) -> 
 pub extern "C" fn savuneco_is_subtree_of(a: &[u8], b: &[u8], normalise: u8) -> u8
     ensures { λ r. ⌜ r ≡ asked (isSubtreeOf (flagged normalise)) (whole nameP (now (a .entry))) (whole nameP (now (b .entry))) ⌝ }
 {
-    number_of(subtree::is_subtree_of(a, b, normalise != 0))
-}
-
-// The answer's number.
-fn number_of(answer: Related) -> u8
-    ensures { λ r. ⌜ r ≡ said answer ⌝ }
-{
-    match answer {
-        Related::No => 0,
-        Related::Yes => 1,
-        Related::Stop(fault) => fault.number(),
-    }
+    subtree::is_subtree_of(a, b, normalise != 0).number()
 }

@@ -20,7 +20,7 @@ use text::match_name;
 use text::normalize_string;
 
 // Answers a line, with what stands behind its question.
-pub fn answer(line: &[u8]) {
+pub(crate) fn answer(line: &[u8]) {
     let mut a = io::buffer();
     let mut b = io::buffer();
     let mut c = io::buffer();
@@ -85,7 +85,7 @@ fn related(question: &[u8], flag: &[u8], a: &[u8], b: &[u8]) -> usize {
     if 5 < which {
         return UNKNOWN;
     }
-    say::related(relation(which, a, b, normalise == 1))
+    relation(which, a, b, normalise == 1).number() as usize
 }
 
 fn relation(which: usize, a: &[u8], b: &[u8], normalise: bool) -> Related {

@@ -11,7 +11,7 @@ use policy::judge;
 use policy::lowest_root;
 
 // lowest_root|PATH|CARD
-pub fn lowest(label: &[u8], path: &[u8], file: &[u8]) {
+pub(crate) fn lowest(label: &[u8], path: &[u8], file: &[u8]) {
     let reading = read(file);
     let outcome = reading.outcome;
     if let Outcome::Stop(fault) = outcome {

@@ -4,7 +4,7 @@ ghost use Prim.Native.Nat.{_<_, _≤_};
 ghost use lib.ListN.{length};
 
 // The bytes of a line's field, written to out: those that find no room are left out.
-pub fn unescape<'a>(line: &[u8], place: usize, out: &'a mut [u8]) -> &'a [u8] {
+pub(crate) fn unescape<'a>(line: &[u8], place: usize, out: &'a mut [u8]) -> &'a [u8] {
     let arg = part(line, b'|', place);
     let mut at: usize = 0;
     let mut n: usize = 0;

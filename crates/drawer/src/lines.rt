@@ -2,7 +2,7 @@
 use text::equal;
 
 // The part of s at a place, the first at 0: the last one where there are fewer.
-pub fn part(s: &[u8], b: u8, place: usize) -> &[u8] {
+pub(crate) fn part(s: &[u8], b: u8, place: usize) -> &[u8] {
     let mut start: usize = 0;
     let mut left = place;
     let mut i: usize = 0;
@@ -20,7 +20,7 @@ pub fn part(s: &[u8], b: u8, place: usize) -> &[u8] {
 }
 
 // How many times b stands in s.
-pub fn count(s: &[u8], b: u8) -> usize {
+pub(crate) fn count(s: &[u8], b: u8) -> usize {
     let mut n: usize = 0;
     let mut i: usize = 0;
     while i < s.len() {
@@ -33,7 +33,7 @@ pub fn count(s: &[u8], b: u8) -> usize {
 }
 
 // The place of a name among names that each end in a bar: how many they are where it is none of them.
-pub fn place(names: &[u8], name: &[u8]) -> usize {
+pub(crate) fn place(names: &[u8], name: &[u8]) -> usize {
     let n = count(names, b'|');
     let mut i: usize = 0;
     while i < n {

@@ -2,25 +2,16 @@
 use crate::lines::part;
 use libc::STDOUT_FILENO;
 use policy::Top;
-use same::Related;
 use text::Normalized;
 
 // A reply is a number: 0 is no, 1 is yes, a fault has its own up to 10, and this one is that there is no such question.
-pub const UNKNOWN: usize = 11;
+pub(crate) const UNKNOWN: usize = 11;
 
-pub fn yes_no(yes: bool) -> usize {
+pub(crate) fn yes_no(yes: bool) -> usize {
     if yes { 1 } else { 0 }
 }
 
-pub fn related(r: Related) -> usize {
-    match r {
-        Related::No => 0,
-        Related::Yes => 1,
-        Related::Stop(fault) => fault.number() as usize,
-    }
-}
-
-pub fn reply(label: &[u8], number: usize) {
+pub(crate) fn reply(label: &[u8], number: usize) {
     put(label);
     put(b": ");
     put(part(b"no|yes|2|3|4|5|6|7|8|9|10|unknown question", b'|', number));
@@ -28,7 +19,7 @@ pub fn reply(label: &[u8], number: usize) {
 }
 
 // The reply, and after it the eight bytes of which the lent room is the start.
-pub fn normalised(label: &[u8], reply: Normalized, room: &[u8; 8]) {
+pub(crate) fn normalised(label: &[u8], reply: Normalized, room: &[u8; 8]) {
     put(label);
     match reply {
         Normalized::Length(n) => {
@@ -43,7 +34,7 @@ pub fn normalised(label: &[u8], reply: Normalized, room: &[u8; 8]) {
 }
 
 // The root above a path, or that there is none.
-pub fn top(label: &[u8], top: Top) {
+pub(crate) fn top(label: &[u8], top: Top) {
     put(label);
     match top {
         Top::Root(place) => {

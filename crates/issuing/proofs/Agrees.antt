@@ -66,7 +66,7 @@ no-subject c i j h =
 -- the rows of a test, for so many issuers and subjects, hold what is wanted at every two places if the test does below the two counts
 -- and nothing is wanted past them
 module _ (test : ℕ → ℕ → Bool) (want : ℕ → ℕ → Bool) (issuers subjects : ℕ) where
-  pub rows-agree : issuers ≤ 64 → ((i j : ℕ) → issuers ≤ i → want i j ≡ false) → ((i j : ℕ) → subjects ≤ j → want i j ≡ false)
+  rows-agree : issuers ≤ 64 → ((i j : ℕ) → issuers ≤ i → want i j ≡ false) → ((i j : ℕ) → subjects ≤ j → want i j ≡ false)
       → ((i j : ℕ) → i < issuers → j < subjects → test i j ≡ want i j)
       → (i j : ℕ) → has i (getD (listing 16 subjects (λ j. rowOf (λ i. test i j) issuers)) j 0) ≡ want i j
   rows-agree room past beyond below i j =

@@ -10,7 +10,7 @@ use lib.Dec.{eqb}
 use Rattle.fields.specs.Fields.{bytesOf}
 use Rattle.names.specs.Names.{nameP}
 use Rattle.same.specs.Same.{sameDn}
-use Rattle.same.specs.Answers.{bothSame}
+use Rattle.same.specs.Answers.{bothRead}
 use Rattle.keys.specs.AuthKeyId.{given, checkAuthKeyId}
 use Rattle.extensions.specs.Extensions.{flag}
 use Rattle.record.specs.Certificate.{certificateOf, present}
@@ -56,13 +56,13 @@ module _ (s : List ℕ) (issuer subject : Record) where
   after-no false b h = refl
 
   pub likely-names : keysFit (certificateOf issuer s) (certificateOf subject s) ≡ true
-      → bothSame (sameDn true) (nameP s (subject .names .issuer)) (nameP s (issuer .names .subject)) ≡ likelyIssuedAt s issuer subject
+      → bothRead (sameDn true) (nameP s (subject .names .issuer)) (nameP s (issuer .names .subject)) ≡ likelyIssuedAt s issuer subject
   unfolding likelyIssuedAt
   likely-names h = after-yes _ _ h
 
   pub likely-none : keysFit (certificateOf issuer s) (certificateOf subject s) ≡ false → false ≡ likelyIssuedAt s issuer subject
   unfolding likelyIssuedAt
-  likely-none h = after-no (bothSame (sameDn true) (nameP s (subject .names .issuer)) (nameP s (issuer .names .subject))) _ h
+  likely-none h = after-no (bothRead (sameDn true) (nameP s (subject .names .issuer)) (nameP s (issuer .names .subject))) _ h
 
 -- ---- the verdict first
 

@@ -2,45 +2,26 @@
 -- of the rows (`rows-turn`) and all of them (`rows-whole`), and what the code asks of two places: nothing more where the verdict is no
 -- (`bundle-unsigned`, `root-unsigned`), and where it is yes, the records that stand there (`bundle-likely`, `root-likely`). Assumes nothing.
 use Prim.Native.Nat.{ℕ, _+_, _<_, _≤_}
-use mathlib.Core.Path.{_≡_, refl, sym, ap, ap₂, _∙_}
-use mathlib.Core.Bool.{Bool, true, false, cond}
+use mathlib.Core.Path.{_≡_, sym, ap, ap₂, _∙_}
+use mathlib.Core.Bool.{Bool, true, false}
 use mathlib.Core.List.{List}
 use native.Mathlib.Omega.{arith}
-use lib.Dec.{leb}
 use lib.ListN.{getD, set, replicate}
-use borrow.Author.Tests.{leb-true, leb-false}
 use Rattle.record.specs.Fresh.{fresh}
-use Rattle.record.specs.declared.Record.{Record}
 use Rattle.certificates.specs.Certificates.{recordOf, sizeOf}
 use Rattle.verdicts.specs.Verdicts.{rootSigned, bundleSigned}
 use Rattle.certificates.specs.declared.roots.Roots.{Roots}
 use Rattle.certificates.specs.declared.bundle.Bundle.{Bundle}
 use Rattle.verdicts.specs.declared.Verdicts.{Verdicts}
-use Rattle.certificates.proofs.Records.{record-there}
+use Rattle.certificates.proofs.Records.{size-within, record-counted}
 use Rattle.rows.specs.Rows.{rowOf, joined, listing}
 use Rattle.rows.proofs.Places.{row-none, row-more, row-kept}
 use Rattle.rows.proofs.Listing.{listing-none, listing-next}
 use Rattle.issuing.specs.Records.{likelyIssuedAt, bundleIssuedAt, rootIssuedAt}
 use Rattle.issuing.proofs.Fits.{after-signed, after-unsigned}
 
-size-few : (most count : ℕ) → sizeOf most count ≤ most
-unfolding sizeOf
-size-few most count = by-test (leb count most) refl
-  where
-    by-test : (b : Bool) → leb count most ≡ b → cond b count most ≤ most
-    by-test true h = leb-true count most h
-    by-test false h = omega arith
-
 pub size-room : (most count n : ℕ) → n ≡ sizeOf most count → n ≤ most
-size-room most count n e = omega (arith, e, size-few most count)
-
-size-counted : (most count : ℕ) → sizeOf most count ≤ count
-unfolding sizeOf
-size-counted most count = by-test (leb count most) refl
-  where
-    by-test : (b : Bool) → leb count most ≡ b → cond b count most ≤ count
-    by-test true h = omega arith
-    by-test false h = omega (arith, leb-false count most h)
+size-room most count n e = omega (arith, e, size-within most count)
 
 -- ---- a row
 
@@ -88,17 +69,13 @@ module _ (f : ℕ → ℕ) (n : ℕ) where
 
 -- ---- two places
 
--- a place below the size has its record in the array
-record-at : (most count : ℕ) (records : List Record) (n i : ℕ) → n ≡ sizeOf most count → i < n → getD records i fresh ≡ recordOf count records i
-record-at most count records n i e h = record-there count records i (omega (arith, e, size-counted most count))
-
 module _ (s : List ℕ) (b : Bundle) (v : Verdicts) (i j : ℕ) (signed : Bool) (asked : signed ≡ bundleSigned v s i j) where
   pub bundle-likely : (n : ℕ) → n ≡ sizeOf 16 (b .count) → i < n → j < n → (r : Bool) → signed ≡ true
       → r ≡ likelyIssuedAt s (getD (b .records) i fresh) (getD (b .records) j fresh) → r ≡ bundleIssuedAt s b v i j
   unfolding bundleIssuedAt
   bundle-likely n e h k r p l =
       after-signed (bundleSigned v s i j) _ r
-      (l ∙ ap₂ (likelyIssuedAt s) (record-at 16 (b .count) (b .records) n i e h) (record-at 16 (b .count) (b .records) n j e k))
+      (l ∙ ap₂ (likelyIssuedAt s) (record-counted 16 (b .count) (b .records) n i e h) (record-counted 16 (b .count) (b .records) n j e k))
       (sym asked ∙ p)
 
   pub bundle-unsigned : signed ≡ false → signed ≡ bundleIssuedAt s b v i j
@@ -112,7 +89,7 @@ module _ (s : List ℕ) (roots : Roots) (b : Bundle) (v : Verdicts) (i j : ℕ) 
   unfolding rootIssuedAt
   root-likely m n d e h k r p l =
       after-signed (rootSigned v s i j) _ r
-      (l ∙ ap₂ (likelyIssuedAt s) (record-at 32 (roots .count) (roots .records) m i d h) (record-at 16 (b .count) (b .records) n j e k))
+      (l ∙ ap₂ (likelyIssuedAt s) (record-counted 32 (roots .count) (roots .records) m i d h) (record-counted 16 (b .count) (b .records) n j e k))
       (sym asked ∙ p)
 
   pub root-unsigned : signed ≡ false → signed ≡ rootIssuedAt s roots v (recordOf (b .count) (b .records) j) i j

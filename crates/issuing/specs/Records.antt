@@ -1,10 +1,11 @@
--- The same of records as they are, whether a reader made them or not: a name that can't be read is no one's. Assumes nothing.
+-- What Issued says of certificates, said of records as they are, whether a reader made them or not: a name that can't be read is no
+-- one's. Assumes nothing.
 use Prim.Native.Nat.{ℕ}
 use mathlib.Core.Bool.{Bool, true, _&&_}
 use mathlib.Core.List.{List}
 use Rattle.names.specs.Names.{nameP}
 use Rattle.same.specs.Same.{sameDn}
-use Rattle.same.specs.Answers.{bothSame}
+use Rattle.same.specs.Answers.{bothRead}
 use Rattle.record.specs.Certificate.{certificateOf}
 use Rattle.record.specs.declared.Record.{Record}
 use Rattle.certificates.specs.Certificates.{recordOf, sizeOf}
@@ -17,7 +18,7 @@ use Rattle.issuing.specs.Issued.{keysFit}
 
 unfoldable pub likelyIssuedAt : List ℕ → Record → Record → Bool
 likelyIssuedAt s issuer subject =
-    bothSame (sameDn true) (nameP s (subject .names .issuer)) (nameP s (issuer .names .subject))
+    bothRead (sameDn true) (nameP s (subject .names .issuer)) (nameP s (issuer .names .subject))
     && keysFit (certificateOf issuer s) (certificateOf subject s)
 
 -- bundle place i issued bundle place j

@@ -3,6 +3,7 @@
 mod likely;
 mod rows_of;
 
+use card::Bundle;
 use card::Card;
 pub use likely::likely_issued;
 use rows_of::bundle_rows;
@@ -12,8 +13,8 @@ ghost use Rattle.issuing.specs.Records.{bundleRows, rootRows};
 
 // Who issued whom: a row for each subject of the bundle.
 pub struct Issuing {
-    pub bundle: [u64; 16],
-    pub roots: [u64; 16],
+    pub bundle: [u64; Bundle::MOST],
+    pub roots: [u64; Bundle::MOST],
 }
 
 // Who issued whom in a card, as rows.

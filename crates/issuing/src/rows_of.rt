@@ -11,7 +11,7 @@ ghost use mathlib.Core.Path.{_≡_};
 ghost use Rattle.issuing.specs.Records.{bundleRows, rootRows};
 
 // A row of bundle places for each certificate of the bundle.
-pub(crate) fn bundle_rows(file: &[u8], bundle: Bundle, verdicts: Verdicts) -> [u64; 16]
+pub(crate) fn bundle_rows(file: &[u8], bundle: Bundle, verdicts: Verdicts) -> [u64; Bundle::MOST]
     ensures { λ r. ⌜ r ≡ bundleRows (now (file .entry)) bundle verdicts ⌝ }
 {
     let n = bundle.size();
@@ -38,7 +38,12 @@ pub(crate) fn bundle_rows(file: &[u8], bundle: Bundle, verdicts: Verdicts) -> [u
 }
 
 // A row of roots for each certificate of the bundle.
-pub(crate) fn root_rows(file: &[u8], roots: Roots, bundle: Bundle, verdicts: Verdicts) -> [u64; 16]
+pub(crate) fn root_rows(
+    file: &[u8],
+    roots: Roots,
+    bundle: Bundle,
+    verdicts: Verdicts,
+) -> [u64; Bundle::MOST]
     ensures { λ r. ⌜ r ≡ rootRows (now (file .entry)) roots bundle verdicts ⌝ }
 {
     let m = roots.size();

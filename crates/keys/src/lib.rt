@@ -2,6 +2,5 @@
 mod address;
 mod auth_key_id;
 
-pub use address::Address;
 pub use address::ip_addr_in_range;
 pub use auth_key_id::check_auth_key_id;

@@ -1,38 +1,14 @@
 -- A loop that judges each place once: it begins with no place (`judging-starts`), and each turn puts a place's limit, and the place itself
--- where it is sound (`judging-joins`) or not (`judging-passes`); it ends with each place judged (`judging-ends`). How many there are:
--- `size-within`, and the record at a place of theirs: `record-counted`. Assumes nothing.
+-- where it is sound (`judging-joins`) or not (`judging-passes`); it ends with each place judged (`judging-ends`). Assumes nothing.
 use Prim.Native.Nat.{ℕ, _+_, _<_, _≤_}
-use mathlib.Core.Bool.{Bool, true, false, cond}
+use mathlib.Core.Bool.{Bool, true, false}
 use mathlib.Core.List.{List}
-use mathlib.Core.Path.{_≡_, refl, sym, ap, _∙_}
+use mathlib.Core.Path.{_≡_, sym, ap, _∙_}
 use native.Mathlib.Omega.{arith}
-use borrow.Author.Tests.{leb-true, leb-false}
-use lib.Dec.{leb}
-use lib.ListN.{getD, set, replicate}
-use Rattle.record.specs.Fresh.{fresh}
-use Rattle.record.specs.declared.Record.{Record}
-use Rattle.certificates.specs.Certificates.{sizeOf, recordOf}
-use Rattle.certificates.proofs.Records.{record-there}
+use lib.ListN.{set, replicate}
 use Rattle.rows.specs.Rows.{rowOf, joined, listing}
 use Rattle.rows.proofs.Places.{row-none, row-more, row-kept}
 use Rattle.rows.proofs.Listing.{listing-none, listing-next}
-
-pub size-within : (most count : ℕ) → sizeOf most count ≤ most
-unfolding sizeOf
-size-within most count = by-test (leb count most) refl
-  where
-    by-test : (b : Bool) → leb count most ≡ b → cond b count most ≤ most
-    by-test true e = leb-true count most e
-    by-test false e = omega arith
-
--- the loop ends at the count or before it, so what it reads is the record of its place
-pub record-counted : (most count : ℕ) (records : List Record) (n i : ℕ) → n ≡ sizeOf most count → i < n → getD records i fresh ≡ recordOf count records i
-unfolding sizeOf
-record-counted most count records n i e h = record-there count records i (by-test (leb count most) refl)
-  where
-    by-test : (b : Bool) → leb count most ≡ b → i < count
-    by-test true k = let m : n ≡ count = e ∙ rw k in omega arith
-    by-test false k = let m : n ≡ most = e ∙ rw k in omega (arith, leb-false count most k)
 
 -- the places below i are judged
 pub record Judging (test : ℕ → Bool) (limit : ℕ → ℕ) (most sound : ℕ) (limits : List ℕ) (i : ℕ) : Type 0 where

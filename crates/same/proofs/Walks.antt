@@ -12,7 +12,7 @@ use borrow.Author.Tests.{eq-eqb, ne-eqb}
 use Rattle.fields.specs.Fields.{Parsed, got, stop, after, countP, many, countedP}
 use Rattle.fields.proofs.Many.{many-length}
 use Rattle.same.specs.Same.{places}
-use Rattle.same.specs.Answers.{bothSame}
+use Rattle.same.specs.Answers.{bothRead}
 use Rattle.same.specs.Walks.{walk}
 use Rattle.same.specs.declared.walk.Walk.{Walk}
 use Rattle.same.specs.declared.walk.Walk.the-variants.{On, Differ}
@@ -37,7 +37,7 @@ through-test : (t : Bool) (e f : ℕ) → through (cond t (On e f) Differ) ≡ t
 through-test true e f = refl
 through-test false e f = refl
 
-pub walk-both : {A : Type 0} (q : A → A → Bool) (x y : Parsed A) → through (walk q x y) ≡ bothSame q x y
+pub walk-both : {A : Type 0} (q : A → A → Bool) (x y : Parsed A) → through (walk q x y) ≡ bothRead q x y
 walk-both q (got x e) (got y f) = through-test (q x y) e f
 walk-both q (got x e) (stop r) = refl
 walk-both q (stop r) y = refl
@@ -71,7 +71,7 @@ module _ {A : Type 0} (q : A → A → Bool) where
     walk-none zero at bt h = refl
     walk-none (suc n) at bt h = absurd (omega arith)
 
-    pub walk-some : (n at bt : ℕ) → 0 < n
+    walk-some : (n at bt : ℕ) → 0 < n
         → walk (places q) (many p n s at) (many p n t bt)
         ≡ on (walk q (p s at) (p t bt)) (λ e f. walk (places q) (many p (n - 1) s e) (many p (n - 1) t f))
     unfolding many
@@ -105,10 +105,10 @@ module _ {A : Type 0} (q : A → A → Bool) (p : List ℕ → ℕ → Parsed A)
   by-length n m at bt true h (stop r) y i j = refl
   by-length n m at bt false h (stop r) y i j = refl
 
-  pub walk-even : (n at bt : ℕ) → walk (asMany q) (many p n s at) (many p n t bt) ≡ walk (places q) (many p n s at) (many p n t bt)
+  walk-even : (n at bt : ℕ) → walk (asMany q) (many p n s at) (many p n t bt) ≡ walk (places q) (many p n s at) (many p n t bt)
   walk-even n at bt = by-length n n at bt true (eq-eqb n n refl) _ _ refl refl
 
-  pub walk-uneven : (n m at bt : ℕ) → (n ≡ m → ⊥) → walk (asMany q) (many p n s at) (many p m t bt) ≡ Differ
+  walk-uneven : (n m at bt : ℕ) → (n ≡ m → ⊥) → walk (asMany q) (many p n s at) (many p m t bt) ≡ Differ
   walk-uneven n m at bt h = by-length n m at bt false (ne-eqb n m h) _ _ refl refl
 
   -- ---- with their counts before them

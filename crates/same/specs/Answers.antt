@@ -20,11 +20,11 @@ asked q (stop r) b = r
 asked q (got x e) (stop r) = r
 asked q (got x e) (got y f) = cond (q x y) 1 0
 
--- two names of a file are the same: no where either place has no name
-abbrev pub bothSame : {A : Type 0} → (A → A → Bool) → Parsed A → Parsed A → Bool
-bothSame q (stop r) b = false
-bothSame q (got x e) (stop r) = false
-bothSame q (got x e) (got y f) = q x y
+-- both can be read and q relates them; no where either can't
+abbrev pub bothRead : {A : Type 0} → (A → A → Bool) → Parsed A → Parsed A → Bool
+bothRead q (stop r) b = false
+bothRead q (got x e) (stop r) = false
+bothRead q (got x e) (got y f) = q x y
 
 -- a walk that came through is a yes
 abbrev pub came : Walk → ℕ

@@ -36,6 +36,17 @@ impl Related {
             }
         }
     }
+
+    // The answer's number.
+    pub fn number(self) -> u8
+        ensures { λ r. ⌜ r ≡ said self ⌝ }
+    {
+        match self {
+            Related::No => 0,
+            Related::Yes => 1,
+            Related::Stop(fault) => fault.number(),
+        }
+    }
 }
 
 // Equal OID, and equal value, normalised when the flag says so.

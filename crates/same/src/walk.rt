@@ -19,7 +19,7 @@ ghost use Rattle.text.specs.Normal.{normal};
 ghost use Rattle.names.specs.Names.{attrP, rdnP, nameP};
 ghost use Rattle.names.specs.Answers.{attrOf, Short};
 ghost use Rattle.same.specs.Same.{places, sameAttr, sameRdn, sameDn};
-ghost use Rattle.same.specs.Answers.{bothSame};
+ghost use Rattle.same.specs.Answers.{bothRead};
 ghost use Rattle.same.specs.Walks.{walk};
 
 // Two things are related and end here; or they are not, or one of them can't be read.
@@ -30,7 +30,7 @@ pub enum Walk {
 
 // Whether the names at two places of a file are the same, walked once.
 pub fn same_names(file: &[u8], a: usize, b: usize, normalise: bool) -> bool
-    ensures { λ r. ⌜ r ≡ bothSame (sameDn normalise) (nameP (now (file .entry)) a) (nameP (now (file .entry)) b) ⌝ }
+    ensures { λ r. ⌜ r ≡ bothRead (sameDn normalise) (nameP (now (file .entry)) a) (nameP (now (file .entry)) b) ⌝ }
 {
     match dn_walk(file, a, file, b, normalise) {
         Walk::On { left: _, right: _ } => {

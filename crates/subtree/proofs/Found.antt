@@ -7,7 +7,7 @@ use native.Mathlib.Omega.{arith}
 use Rattle.fields.specs.Fields.{Parsed, got, stop, countP, countedP, whole}
 use Rattle.names.specs.Names.{attrP, rdnP}
 use Rattle.names.proofs.Judged.{Holds}
-use Rattle.same.specs.Answers.{asked, bothSame}
+use Rattle.same.specs.Answers.{asked, bothRead}
 use Rattle.subtree.specs.Subtree.{rdnHasName}
 use Rattle.subtree.specs.Rows.{Fine, standing, hasRead}
 use Rattle.subtree.proofs.Rows.{row-read}
@@ -17,7 +17,7 @@ fine p s e x = rw (x .read) tt
 
 -- both are fine, and what was found of the two is t
 pub found : {A : Type 0} (p : List ℕ → ℕ → Parsed A) (rel : A → A → Bool) (a b : List ℕ) (e f : ℕ) → Holds p a e → Holds p b f
-    → (t : Bool) → t ≡ bothSame rel (p a 0) (p b 0) → cond t 1 0 ≡ asked rel (whole p a) (whole p b)
+    → (t : Bool) → t ≡ bothRead rel (p a 0) (p b 0) → cond t 1 0 ≡ asked rel (whole p a) (whole p b)
 found p rel a b e f x y t h = rw (h, x .read, y .read, x .is, y .is)
 
 -- ---- an RDN and an attribute

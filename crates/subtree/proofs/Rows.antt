@@ -29,7 +29,7 @@ use Rattle.same.proofs.Walks.{through, walk-both}
 
 -- ---- what the place past a thing tells of the thing
 
-pub passing-fine : {A : Type 0} (x : Parsed A) (e : ℕ) → passing x ≡ got tt e → Fine x
+passing-fine : {A : Type 0} (x : Parsed A) (e : ℕ) → passing x ≡ got tt e → Fine x
 passing-fine (got a f) e h = tt
 passing-fine (stop r) e h = let z : _≡_ {A = ℕ} 0 1 = cc in omega arith
 

@@ -14,7 +14,7 @@ ghost use mathlib.Core.Path.{_≡_};
 ghost use Rattle.fields.specs.Fields.{many};
 ghost use Rattle.names.specs.Names.{attrP, rdnP, nameP};
 ghost use Rattle.same.specs.Same.{places};
-ghost use Rattle.same.specs.Answers.{bothSame};
+ghost use Rattle.same.specs.Answers.{bothRead};
 ghost use Rattle.same.specs.Walks.{walk};
 ghost use Rattle.subtree.specs.Subtree.{everyOf, rdnHasName, isSubtreeRdn, isSubtreeOf};
 ghost use Rattle.subtree.specs.Rows.{Fine, standing, hasRead};
@@ -118,7 +118,7 @@ fn subtree_rdns_walk(s: &[u8], at: usize, t: &[u8], bt: usize, n: usize, normali
 // Whether the name s is a subtree of the name t; both were read through.
 pub(crate) fn subtree(s: &[u8], t: &[u8], normalise: bool) -> bool
     requires { ⌜ Fine (nameP (now s) 0) × Fine (nameP (now t) 0) ⌝ }
-    ensures { λ r. ⌜ r ≡ bothSame (isSubtreeOf normalise) (nameP (now (s .entry)) 0) (nameP (now (t .entry)) 0) ⌝ }
+    ensures { λ r. ⌜ r ≡ bothRead (isSubtreeOf normalise) (nameP (now (s .entry)) 0) (nameP (now (t .entry)) 0) ⌝ }
 {
     let NameAt::Got(low) = name_begins(s, 0) else {
         return false;

@@ -6,6 +6,7 @@ use mathlib.Core.List.{List}
 use lib.Dec.{eqb}
 use Rattle.fields.specs.Fields.{Parsed, got, stop, after, countP, spanP, bigP, byteP}
 use Rattle.extensions.specs.Extensions.{nowhere}
+use Rattle.task.specs.declared.Host.{Host}
 use Rattle.task.specs.declared.Task.{Task}
 
 -- count byte 1; now and budget, a u64 each
@@ -28,6 +29,10 @@ taskP s at =
     after (spanP 0 253 s f) (λ host g.
     got (record { now = t .0; budget = t .1; host = record { name = host } }) g)))
 
--- what stands where nothing was read
+-- ---- what stands where nothing was read
+
+abbrev pub fresh-host : Host
+fresh-host = record { name = nowhere }
+
 abbrev pub fresh-task : Task
-fresh-task = record { now = 0; budget = 0; host = record { name = nowhere } }
+fresh-task = record { now = 0; budget = 0; host = fresh-host }

@@ -6,13 +6,14 @@ use fields::NumberAt;
 use fields::Past;
 use fields::Span;
 use fields::StringAt;
+use fields::byte_at;
 use fields::count_at;
 use fields::string_at;
 use fields::u64_at;
 ghost use mathlib.Core.Path.{_≡_};
 ghost use Rattle.fields.specs.Fields.{stop, after};
 ghost use Rattle.fields.specs.Answers.{number, passed, passing, held, Emptied};
-ghost use Rattle.task.specs.Task.{timesP, purposeP, taskP, fresh-task};
+ghost use Rattle.task.specs.Task.{timesP, purposeP, taskP, fresh-host, fresh-task};
 ghost use Rattle.task.specs.Answers.{timed};
 
 // The host that is asked; none where its name has no bytes.
@@ -24,6 +25,15 @@ impl Host {
     pub const LEAST: usize = 0;
 
     pub const MOST: usize = 253;
+
+    // No host.
+    pub fn new() -> Host
+        ensures { λ r. ⌜ r ≡ fresh-host ⌝ }
+    {
+        Host {
+            name: Span { start: 0, end: 0 },
+        }
+    }
 }
 
 pub struct Task {
@@ -44,9 +54,7 @@ impl Task {
         Task {
             now: 0,
             budget: 0,
-            host: Host {
-                name: Span { start: 0, end: 0 },
-            },
+            host: Host::new(),
         }
     }
 }
@@ -146,7 +154,7 @@ fn times_at(file: &[u8], at: usize) -> TimesAt
 fn purpose_at(file: &[u8], at: usize) -> Past
     ensures { λ r. ⌜ passed r ≡ passing (purposeP (now (file .entry)) at) ⌝ }
 {
-    match count_at(file, at, 0, 255) {
+    match byte_at(file, at) {
         CountAt::Got {
             count: purpose,
             next,

@@ -1,18 +1,35 @@
--- The laws of byte strings compared, as the loops and returns of `src/bytes.rt` need them, and what `&l[k..]` reads.
--- Assumes nothing.
+-- `same` is equality (`same-sound`, `same-refl`); the laws of byte strings compared, as the loops and returns of `src/bytes.rt` need
+-- them; and what `&l[k..]` reads. Assumes nothing.
 use Prim.Native.Nat.{ℕ, _+_, _-_, _<_, _≤_}
 use mathlib.Core.Path.{_≡_, refl, sym, _∙_}
-use mathlib.Core.Bool.{Bool, true, false, _&&_, and-true, and-assoc}
-use mathlib.Core.List.{List}
+use mathlib.Core.Bool.{Bool, true, false, _&&_, and-true, and-assoc, false≢true}
+use mathlib.Core.List.{List, [], _∷_}
 use native.Mathlib.Numerals.{add-one}
 use native.Mathlib.Omega.{arith}
 use lib.Dec.{eqb}
 use lib.ListN.{length, getD, take, drop, length-drop, drop-of-length-le}
 use lib.Seq.{drop-cons, take-all}
-use borrow.Author.Tests.{eq-eqb, ne-eqb, le-leb, lt-leb}
-use Rattle.text.specs.Bytes.{same, hasByte, startsWith, endsWith, same-sound}
+use borrow.Author.Tests.{eqb-true, eq-eqb, ne-eqb, le-leb, lt-leb}
+use Rattle.text.specs.Bytes.{same, hasByte, startsWith, endsWith}
+use Rattle.text.proofs.Each.{both-true}
 
--- ---- `same`
+-- ---- `same` is equality
+
+pub same-sound : (a b : List ℕ) → same a b ≡ true → a ≡ b
+unfolding same
+same-sound [] [] e = refl
+same-sound [] (y ∷ b) e = absurd (false≢true e)
+same-sound (x ∷ a) [] e = absurd (false≢true e)
+same-sound (x ∷ a) (y ∷ b) e =
+    let h = both-true (eqb x y) (same a b) .0 e in
+    let q : x ≡ y = eqb-true x y (h .0) in
+    let r : a ≡ b = same-sound a b (h .1) in
+    cc
+
+pub same-refl : (a : List ℕ) → same a a ≡ true
+unfolding same
+same-refl [] = refl
+same-refl (x ∷ a) = rw (eq-eqb x x refl) (same-refl a)
 
 pub differ : (a b : List ℕ) → (a ≡ b → ⊥) → same a b ≡ false
 differ a b n = go (same a b) refl where

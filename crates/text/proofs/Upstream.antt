@@ -5,9 +5,9 @@ use Prim.Native.Nat.{ℕ}
 use mathlib.Core.Path.{_≡_, refl, sym, _∙_}
 use mathlib.Core.Bool.{Bool, true, false, false≢true}
 use mathlib.Core.List.{List}
-use Rattle.text.specs.Bytes.{same, same-sound, same-refl}
+use Rattle.text.specs.Bytes.{same}
 use Rattle.text.specs.Normal.{normal}
-use Rattle.text.proofs.Same.{differ}
+use Rattle.text.proofs.Same.{same-sound, same-refl, differ}
 
 module _ (a b : List ℕ) where
   pub normal-same : same a b ≡ true → same (normal a) (normal b) ≡ true

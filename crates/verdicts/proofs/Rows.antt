@@ -62,7 +62,7 @@ verdict-one s at v e h =
 
 -- things of one byte each, in a row: the i-th is the i-th byte
 module _ (p : List ℕ → ℕ → Parsed ℕ) (s : List ℕ) (one : (at v e : ℕ) → p s at ≡ got v e → OneByte s at v e) where
-  pub row-byte : (n at : ℕ) (l : List ℕ) (e : ℕ) → many p n s at ≡ got l e → (i : ℕ) → i < n → getD l i 0 ≡ getD s (at + i) 0
+  row-byte : (n at : ℕ) (l : List ℕ) (e : ℕ) → many p n s at ≡ got l e → (i : ℕ) → i < n → getD l i 0 ≡ getD s (at + i) 0
   unfolding many
   row-byte zero at l e h = λ i w. absurd (omega arith)
   row-byte (suc n) at l e h =

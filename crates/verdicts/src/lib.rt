@@ -6,7 +6,7 @@ use fields::CountAt;
 use fields::Fault;
 use fields::NumberAt;
 use fields::Past;
-use fields::count_at;
+use fields::byte_at;
 use fields::u16_at;
 ghost use mathlib.Core.Path.{_≡_};
 ghost use Prim.Native.Nat.{_+_, _*_, _≤_};
@@ -152,7 +152,7 @@ fn verdict_rows(file: &[u8], verdicts: Verdicts, n: usize) -> VerdictsRead
 fn verdict_at(file: &[u8], at: usize) -> Past
     ensures { λ r. ⌜ passed r ≡ passing (verdictP (now (file .entry)) at) ⌝ }
 {
-    match count_at(file, at, 0, 255) {
+    match byte_at(file, at) {
         CountAt::Got {
             count: verdict,
             next,

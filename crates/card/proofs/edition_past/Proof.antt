@@ -3,7 +3,6 @@ use borrow.Author.Tests.{le-leb, lt-leb, eq-eqb, ne-eqb}
 use borrow.Author.Needs.{needs}
 use mathlib.Core.Path.{sym, ap, _∙_}
 use Rattle.fields.specs.Answers.{counted}
-use Rattle.fields.specs.Fields.{byteP}
 use Rattle.card.specs.Card.{editionP}
 use Rattle.card.proofs.edition_past.Statement.{statement}
 use Rattle.card.proofs.edition_past.Tie as tie
@@ -11,41 +10,41 @@ use Rattle.card.proofs.edition_past.Tie as tie
 returns : tie.Need-returns
 returns c = rw (lt-leb _ _ (c .if1 .taken))
 
-count-at-requires : tie.Need-count-at-requires
-count-at-requires c κs = search needs
+byte-at-requires : tie.Need-byte-at-requires
+byte-at-requires c κs = search needs
 
 enum-known-edition : tie.Need-enum-known-edition
 enum-known-edition c = search needs
 
 returns-2 : tie.Need-returns-2
-unfolding editionP byteP
+unfolding editionP
 returns-2 c =
     let e = c .before .before in
     let n = e .before .before in
-    rw (le-leb _ _ (n .before .if1 .left), sym (n .count-at .ensures) ∙ ap counted (e .edition .given .1), eq-eqb _ _ (c .if2 .taken))
+    rw (le-leb _ _ (n .before .if1 .left), sym (n .byte-at .ensures) ∙ ap counted (e .edition .given .1), eq-eqb _ _ (c .if2 .taken))
 
 returns-3 : tie.Need-returns-3
-unfolding editionP byteP
+unfolding editionP
 returns-3 c =
     let e = c .before .before in
     let n = e .before .before in
-    rw (le-leb _ _ (n .before .if1 .left), sym (n .count-at .ensures) ∙ ap counted (e .edition .given .1), ne-eqb _ _ (c .if2 .left))
+    rw (le-leb _ _ (n .before .if1 .left), sym (n .byte-at .ensures) ∙ ap counted (e .edition .given .1), ne-eqb _ _ (c .if2 .left))
 
 enum-known-fault : tie.Need-enum-known-fault
 enum-known-fault c = search needs
 
 returns-4 : tie.Need-returns-4
-unfolding editionP byteP
+unfolding editionP
 returns-4 c =
     let n = c .before .before .before in
-    rw (le-leb _ _ (n .before .if1 .left), sym (n .count-at .ensures) ∙ ap counted (c .before .fault .given .1))
+    rw (le-leb _ _ (n .before .if1 .left), sym (n .byte-at .ensures) ∙ ap counted (c .before .fault .given .1))
 
 pub edition-past-spec : {M : Type 1} → statement M
 edition-past-spec =
     tie.close
     (tie.spec
     returns
-    count-at-requires
+    byte-at-requires
     enum-known-edition
     returns-2
     returns-3
