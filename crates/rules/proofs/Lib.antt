@@ -3,4 +3,3 @@ pub mod Frauds
 pub mod Hosts
 pub mod LeafRead
 pub mod Lowering
-pub mod Things
