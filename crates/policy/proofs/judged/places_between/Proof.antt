@@ -6,7 +6,8 @@ use Prim.Native.Nat.{_-_, _<_, _≤_}
 use mathlib.Core.Logic.{⊎-elim}
 use mathlib.Core.Path.{sym, ap, _∙_}
 use Rattle.record.specs.Certificate.{certificateOf}
-use Rattle.policy.specs.Sound.{betweenSound, limitOf, placeOf, soundPlaces, placeLimits}
+use Rattle.rules.specs.Rules.{limitOf}
+use Rattle.policy.specs.Sound.{betweenSound, placeOf, soundPlaces, placeLimits}
 use Rattle.policy.proofs.Places.{Judging, size-within, record-counted, judging-starts, judging-joins, judging-passes, judging-ends}
 use Rattle.policy.proofs.judged.places_between.Statement.{statement}
 use Rattle.policy.proofs.judged.places_between.Tie as tie

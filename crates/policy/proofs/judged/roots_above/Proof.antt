@@ -7,7 +7,8 @@ use mathlib.Core.List.{List}
 use mathlib.Core.Logic.{⊎-elim}
 use mathlib.Core.Path.{sym, ap, _∙_}
 use Rattle.record.specs.Certificate.{certificateOf}
-use Rattle.policy.specs.Sound.{topSound, limitOf, rootOf, soundRoots, rootLimits}
+use Rattle.rules.specs.Rules.{limitOf}
+use Rattle.policy.specs.Sound.{topSound, rootOf, soundRoots, rootLimits}
 use Rattle.policy.proofs.Places.{Judging, size-within, record-counted, judging-starts, judging-joins, judging-passes, judging-ends}
 use Rattle.policy.proofs.judged.roots_above.Statement.{statement}
 use Rattle.policy.proofs.judged.roots_above.Tie as tie
