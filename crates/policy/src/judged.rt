@@ -23,13 +23,13 @@ ghost use Rattle.policy.specs.Sound.{leafSoundAt, betweenSound, topSound
 // between it and the leaf.
 pub struct Between {
     pub sound: u64,
-    pub limits: [usize; 16],
+    pub limits: [usize; Bundle::MOST],
 }
 
 // The same of the roots; none may stand above where the leaf is not sound.
 pub struct Above {
     pub sound: u64,
-    pub limits: [usize; 32],
+    pub limits: [usize; Roots::MOST],
 }
 
 pub struct Judged {

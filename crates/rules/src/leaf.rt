@@ -114,7 +114,7 @@ fn matches(dns: &[u8], asked: &[u8]) -> bool
 }
 
 // A name's bytes lowered, and zeros after them.
-fn lowered(name: &[u8]) -> [u8; 253]
+fn lowered(name: &[u8]) -> [u8; Host::MOST]
     requires { ⌜ length (now name) ≤ 253 ⌝ }
     ensures { λ r. ⌜ take (length (now (name .entry))) r ≡ map lowered (now (name .entry)) ⌝ }
 {
