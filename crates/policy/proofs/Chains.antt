@@ -15,7 +15,7 @@ use Rattle.policy.specs.Sound.{betweenSound, topSound}
 -- ---- tests that come out true
 
 -- two answers that are a yes in the same cases are the same
-pub same-yes : (a b : Bool) → (a ≡ true → b ≡ true) → (b ≡ true → a ≡ true) → a ≡ b
+same-yes : (a b : Bool) → (a ≡ true → b ≡ true) → (b ≡ true → a ≡ true) → a ≡ b
 same-yes true b f g = sym (f refl)
 same-yes false true f g = g refl
 same-yes false false f g = refl

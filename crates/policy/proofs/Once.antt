@@ -1,30 +1,17 @@
--- What the tests of one certificate come to: its limit (`limit-given`, `no-limit`), then what is asked of it between leaf and root, as the
--- root and as the leaf, by the first test that fails, and the roots above by the leaf. Assumes nothing.
-use Prim.Native.Nat.{ℕ, _/_, _%_}
+-- What the tests of one certificate come to: what is asked of it between leaf and root, as the root and as the leaf, by the first test
+-- that fails, and the roots above by the leaf. Assumes nothing.
+use Prim.Native.Nat.{ℕ}
 use mathlib.Core.Bool.{Bool, true, false}
 use mathlib.Core.List.{List}
 use mathlib.Core.Path.{_≡_, sym}
-use borrow.Author.Tests.{eq-eqb, ne-eqb}
 use Rattle.fields.specs.Fields.{bytesOf}
-use Rattle.extensions.specs.Extensions.{flag}
 use Rattle.record.specs.Certificate.{Certificate, certificateOf}
 use Rattle.record.specs.declared.Record.{Record}
 use Rattle.certificates.specs.Certificates.{recordOf}
 use Rattle.card.specs.declared.Card.{Card}
 use Rattle.rules.specs.Rules.{inDate, wellFormed, handled, authority}
 use Rattle.rules.specs.Records.{forServersAt, forHostAt}
-use Rattle.policy.specs.Sound.{betweenSound, topSound, leafSoundAt, limitOf, soundRoots, rootsAbove}
-
--- ---- a path length
-
-module _ (r : Record) (s : List ℕ) where
-  pub limit-given : r .head .flags / 16 % 2 ≡ 1 → limitOf (certificateOf r s) ≡ r .extensions .«path_length»
-  unfolding limitOf certificateOf flag
-  limit-given h = rw (eq-eqb (r .head .flags / 16 % 2) 1 h)
-
-  pub no-limit : (r .head .flags / 16 % 2 ≡ 1 → ⊥) → limitOf (certificateOf r s) ≡ 255
-  unfolding limitOf certificateOf flag
-  no-limit h = rw (ne-eqb (r .head .flags / 16 % 2) 1 h)
+use Rattle.policy.specs.Sound.{betweenSound, topSound, leafSoundAt, soundRoots, rootsAbove}
 
 -- ---- by where it stands
 

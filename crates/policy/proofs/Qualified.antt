@@ -1,5 +1,6 @@
 -- What is judged of a path is what the content says: the lowest root that `lowest_root` finds for a path from the leaf is the lowest by
--- which the path qualifies (`judged-root`, `judged-lowest`). Assumes nothing.
+-- which the path qualifies (`judged-root`), and the lowest of the 32 that there can be is the lowest of those that are there
+-- (`lowest-of-all`). Assumes nothing.
 use Prim.Native.Nat.{ℕ, _<_, _≤_}
 use mathlib.Core.Path.{_≡_, refl, sym, ap, _∙_}
 use mathlib.Core.Bool.{Bool, true, false, cond, _&&_, false≢true}
@@ -23,10 +24,14 @@ use Rattle.rules.specs.Rules.{allows}
 use Rattle.policy.specs.Policy.{policy, chainOf}
 use Rattle.policy.specs.Sound.{topSound, soundPlaces, placeLimits, rootLimits, rootsAbove}
 use Rattle.policy.specs.Judging.{lastOf, stands, allStand, lowestAbove, judgedRoot}
-use Rattle.policy.specs.Qualifies.{qualifies, lowestRoot}
+use Rattle.policy.specs.Qualifies.{qualifies}
 use Rattle.policy.proofs.Chains.{allBetween, leafSound, bySeat, policy-by-seat}
 use Rattle.policy.proofs.Paths.{seek-none}
 use Rattle.policy.proofs.Seats.{Inside, all-stand-read, top-read}
+
+-- the lowest root by which a path qualifies; as many as there are roots where there is none
+unfoldable pub lowestRoot : Content → List ℕ → ℕ
+lowestRoot c p = seek (qualifies c p) 0 (length (c .roots))
 
 -- ---- tests
 

@@ -4,11 +4,10 @@ use Prim.Native.Nat.{ℕ, _+_, _<_, _≤_}
 use mathlib.Core.Path.{_≡_, refl, ap₂}
 use mathlib.Core.Bool.{Bool, true, false, cond, _&&_}
 use mathlib.Core.List.{List, [], _∷_, map}
-use mathlib.Core.Option.{Option, none, some}
 use native.Mathlib.Omega.{arith}
-use lib.Dec.{leb, ltb}
+use lib.Dec.{ltb}
 use lib.ListN.{length, getD}
-use borrow.Author.Tests.{lt-ltb, le-leb}
+use borrow.Author.Tests.{lt-ltb}
 use Rattle.fields.specs.Fields.{bytesOf}
 use Rattle.record.specs.Certificate.{Certificate, certificateOf}
 use Rattle.certificates.specs.Certificates.{recordOf}
@@ -21,9 +20,10 @@ use Rattle.rows.specs.Rows.{has}
 use Rattle.rows.proofs.Places.{has-row, has-none}
 use Rattle.rows.proofs.Listing.{listing-there}
 use Rattle.issuing.proofs.Agrees.{size-is, root-is, bundled-is}
-use Rattle.rules.specs.Rules.{atMost, allows}
+use Rattle.rules.specs.Rules.{allows, limitOf}
 use Rattle.rules.proofs.LeafRead.{for-servers-read, for-host-read}
-use Rattle.policy.specs.Sound.{betweenSound, topSound, leafSoundAt, orNoLimit, limitOf, soundPlaces, placeLimits, soundRoots, rootLimits, rootsAbove}
+use Rattle.rules.proofs.Limits.{limit-allows}
+use Rattle.policy.specs.Sound.{betweenSound, topSound, leafSoundAt, soundPlaces, placeLimits, soundRoots, rootLimits, rootsAbove}
 use Rattle.policy.specs.Judging.{stands, allStand}
 use Rattle.policy.proofs.Chains.{allBetween, leafSound}
 
@@ -31,15 +31,6 @@ use Rattle.policy.proofs.Chains.{allBetween, leafSound}
 abbrev pub Inside : ℕ → List ℕ → Type 0
 Inside n [] = Unit {0}
 Inside n (i ∷ l) = (i < n) × Inside n l
-
--- a limit says what a path length does, of as many certificates as a path can have
-limit-says : (k : ℕ) (p : Option ℕ) → k ≤ 255 → leb k (orNoLimit p) ≡ atMost k p
-limit-says k none h = le-leb k 255 h
-limit-says k (some p) h = refl
-
-limit-allows : (k : ℕ) (c : Certificate) → k ≤ 255 → leb k (limitOf c) ≡ allows k c
-unfolding limitOf allows
-limit-allows k c h = limit-says k (c .path-length) h
 
 module _ (s : List ℕ) (c : Card) (e : ℕ) (t : CardRead s c e) (time : ℕ) where
   abbrev place : ℕ → Certificate

@@ -2,8 +2,6 @@
 use Prim.Native.Nat.{ℕ}
 use mathlib.Core.Bool.{Bool, false, _&&_}
 use mathlib.Core.List.{List, [], _∷_}
-use lib.ListN.{length}
-use Rattle.rows.specs.Rows.{seek}
 use Rattle.card.specs.Content.{Content, root}
 use Rattle.issuing.specs.Issued.{issued}
 use Rattle.policy.specs.Policy.{policy, chainOf}
@@ -18,7 +16,3 @@ reaches c (p ∷ l) r = issued c (root r) (lastOf p l)
 abbrev pub qualifies : Content → List ℕ → ℕ → Bool
 qualifies c [] r = false
 qualifies c (p ∷ l) r = reaches c (p ∷ l) r && policy (c .now) (c .host) (chainOf c p l r)
-
--- the lowest root by which a path qualifies; as many as there are roots where there is none
-unfoldable pub lowestRoot : Content → List ℕ → ℕ
-lowestRoot c p = seek (qualifies c p) 0 (length (c .roots))

@@ -3,7 +3,6 @@
 use Prim.Native.Nat.{ℕ}
 use mathlib.Core.Bool.{Bool, cond, _&&_}
 use mathlib.Core.List.{List}
-use mathlib.Core.Option.{Option, none, some}
 use Rattle.fields.specs.Fields.{bytesOf}
 use Rattle.record.specs.Certificate.{Certificate, certificateOf}
 use Rattle.record.specs.declared.Record.{Record}
@@ -12,7 +11,7 @@ use Rattle.certificates.specs.declared.roots.Roots.{Roots}
 use Rattle.certificates.specs.declared.bundle.Bundle.{Bundle}
 use Rattle.card.specs.declared.Card.{Card}
 use Rattle.rows.specs.Rows.{rowOf, listing}
-use Rattle.rules.specs.Rules.{inDate, wellFormed, handled, authority}
+use Rattle.rules.specs.Rules.{inDate, wellFormed, handled, authority, limitOf}
 use Rattle.rules.specs.Records.{forServersAt, forHostAt}
 
 -- between leaf and root
@@ -31,14 +30,6 @@ leafSoundAt s time host r =
     && handled (certificateOf r s)
     && forServersAt s (r .extensions .usages)
     && forHostAt s host (r .extensions .«dns_names»)
-
--- a path length, or more than a path can have
-abbrev pub orNoLimit : Option ℕ → ℕ
-orNoLimit none = 255
-orNoLimit (some p) = p
-
-unfoldable pub limitOf : Certificate → ℕ
-limitOf c = orNoLimit (c .path-length)
 
 -- ---- of a card's places
 

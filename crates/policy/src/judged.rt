@@ -11,24 +11,25 @@ use rules::for_host;
 use rules::for_servers;
 use rules::handled;
 use rules::in_date;
+use rules::limit;
 use rules::well_formed;
 ghost use mathlib.Core.List.{List};
 ghost use mathlib.Core.Path.{_≡_};
 ghost use Prim.Native.Nat.{ℕ};
 ghost use Rattle.record.specs.Certificate.{certificateOf};
-ghost use Rattle.policy.specs.Sound.{leafSoundAt, betweenSound, topSound, limitOf, soundPlaces, placeLimits, soundRoots, rootLimits, rootsAbove};
+ghost use Rattle.policy.specs.Sound.{leafSoundAt, betweenSound, topSound, soundPlaces, placeLimits, soundRoots, rootLimits, rootsAbove};
 
 // The places of the bundle that may stand between leaf and root, and for each how many certificates its path length lets stand
 // between it and the leaf.
 pub struct Between {
     pub sound: u64,
-    pub limits: [usize; 16],
+    pub limits: [usize; Bundle::MOST],
 }
 
 // The same of the roots; none may stand above where the leaf is not sound.
 pub struct Above {
     pub sound: u64,
-    pub limits: [usize; 32],
+    pub limits: [usize; Roots::MOST],
 }
 
 pub struct Judged {
@@ -100,19 +101,6 @@ fn top_sound(time: u64, root: Record) -> bool
         }
     }
     false
-}
-
-// More certificates than a path can have.
-const NO_LIMIT: usize = 255;
-
-// A path length; no limit where there is none.
-fn limit(cert: Record) -> usize
-    ensures { λ r. ⌜ ((s : List ℕ) → r ≡ limitOf (certificateOf cert s)) ⌝ }
-{
-    if cert.head.flags / 16 % 2 == 1 {
-        return cert.extensions.path_length;
-    }
-    NO_LIMIT
 }
 
 // A record is read where it stands in the array: fetched by its place, all of them would be copied each turn.

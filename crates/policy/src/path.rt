@@ -17,11 +17,11 @@ pub enum Top {
 // issued it.
 pub fn lowest_root(
     path: &[u8],
-    issued: &[u64; 16],
+    issued: &[u64; Bundle::MOST],
     between: u64,
-    limits: &[usize; 16],
+    limits: &[usize; Bundle::MOST],
     above: u64,
-    tops: &[usize; 32],
+    tops: &[usize; Roots::MOST],
 ) -> Top
     ensures { λ r. ⌜ r ≡ topOf (judgedRoot (now (issued .entry)) between (now (limits .entry)) above (now (tops .entry)) (now (path .entry))) ⌝ }
 {
@@ -45,7 +45,7 @@ pub fn lowest_root(
 }
 
 // Each place after the first may stand where it does.
-fn all_stand(path: &[u8], between: u64, limits: &[usize; 16]) -> bool
+fn all_stand(path: &[u8], between: u64, limits: &[usize; Bundle::MOST]) -> bool
     ensures { λ r. ⌜ r ≡ allStand between (now (limits .entry)) 0 (drop 1 (now (path .entry))) ⌝ }
 {
     let mut i: usize = 1;
@@ -66,7 +66,7 @@ fn all_stand(path: &[u8], between: u64, limits: &[usize; 16]) -> bool
 }
 
 // The lowest root that issued the last place and may stand above, with n certificates between it and the leaf.
-fn lowest_above(issued: u64, above: u64, limits: &[usize; 32], n: usize) -> Top
+fn lowest_above(issued: u64, above: u64, limits: &[usize; Roots::MOST], n: usize) -> Top
     ensures { λ r. ⌜ r ≡ topOf (lowestAbove issued above (now (limits .entry)) n) ⌝ }
 {
     let mut r: u8 = 0;

@@ -2,5 +2,5 @@ pub mod AnyOf
 pub mod Frauds
 pub mod Hosts
 pub mod LeafRead
+pub mod Limits
 pub mod Lowering
-pub mod Things

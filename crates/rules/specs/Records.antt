@@ -1,4 +1,5 @@
--- The same of records as they are, whether a reader made them or not. Assumes nothing.
+-- What Rules asks of the leaf's usages and DNS names, asked of a record's rows as they are, whether a reader made them or not. Assumes
+-- nothing.
 use Prim.Native.Nat.{ℕ, zero, suc}
 use mathlib.Core.Bool.{Bool, false, _&&_, _||_}
 use mathlib.Core.List.{List}

@@ -2,10 +2,10 @@
 use card::Host;
 use fields::CountAt;
 use fields::StringAt;
-use fields::count_at;
 use fields::part;
-use fields::string_at;
 use lists::Row;
+use lists::dns_name_at;
+use lists::usage_at;
 use text::lower;
 use text::match_name;
 ghost use mathlib.Core.List.{map};
@@ -35,11 +35,8 @@ fn any_serving(file: &[u8], first: usize, n: usize) -> bool
     let mut at = first;
     let mut left = n;
     while 0 < left {
-        match count_at(file, at, 0, 255) {
+        match usage_at(file, at) {
             CountAt::Got { count: usage, next } => {
-                if Row::USAGE_MOST < usage {
-                    return false;
-                }
                 if serving(usage) {
                     return true;
                 }
@@ -90,7 +87,7 @@ fn any_names(file: &[u8], asked: &[u8], first: usize, n: usize) -> bool
     let mut at = first;
     let mut left = n;
     while 0 < left {
-        match string_at(file, at, Row::DNS_NAME_LEAST, Row::DNS_NAME_MOST) {
+        match dns_name_at(file, at) {
             StringAt::Got(name) => {
                 if matches(part(file, name), asked) {
                     return true;
@@ -117,7 +114,7 @@ fn matches(dns: &[u8], asked: &[u8]) -> bool
 }
 
 // A name's bytes lowered, and zeros after them.
-fn lowered(name: &[u8]) -> [u8; 253]
+fn lowered(name: &[u8]) -> [u8; Host::MOST]
     requires { ⌜ length (now name) ≤ 253 ⌝ }
     ensures { λ r. ⌜ take (length (now (name .entry))) r ≡ map lowered (now (name .entry)) ⌝ }
 {

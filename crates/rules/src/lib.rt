@@ -5,8 +5,8 @@ mod rules;
 
 pub use leaf::for_host;
 pub use leaf::for_servers;
-pub use rules::allows;
 pub use rules::authority;
 pub use rules::handled;
 pub use rules::in_date;
+pub use rules::limit;
 pub use rules::well_formed;

@@ -6,7 +6,7 @@ ghost use mathlib.Core.List.{List};
 ghost use mathlib.Core.Path.{_≡_};
 ghost use Prim.Native.Nat.{ℕ};
 ghost use Rattle.record.specs.Certificate.{certificateOf};
-ghost use Rattle.rules.specs.Rules.{inDate, wellFormed, handled, authority, allows};
+ghost use Rattle.rules.specs.Rules.{inDate, wellFormed, handled, authority, limitOf};
 
 // Not before and not after, at a time that is given.
 pub fn in_date(time: u64, cert: Record) -> bool
@@ -54,12 +54,15 @@ pub fn authority(cert: Record) -> bool
     flags / 64 % 2 == 1
 }
 
-// A path length, if there is one, lets so many certificates stand between this one and the leaf.
-pub fn allows(between: usize, cert: Record) -> bool
-    ensures { λ r. ⌜ ((s : List ℕ) → r ≡ allows between (certificateOf cert s)) ⌝ }
+// How many certificates a path length lets stand between this one and the leaf; no limit where there is none.
+pub fn limit(cert: Record) -> usize
+    ensures { λ r. ⌜ ((s : List ℕ) → r ≡ limitOf (certificateOf cert s)) ⌝ }
 {
-    if cert.head.flags / 16 % 2 != 1 {
-        return true;
+    if cert.head.flags / 16 % 2 == 1 {
+        return cert.extensions.path_length;
     }
-    between <= cert.extensions.path_length
+    NO_LIMIT
 }
+
+// More certificates than a path can have.
+const NO_LIMIT: usize = 255;

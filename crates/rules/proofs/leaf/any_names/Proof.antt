@@ -7,9 +7,8 @@ use borrow.Author.Needs.{needs}
 use Rattle.text.specs.Bytes.{lowered}
 use Rattle.text.specs.Wildcard.{matchName}
 use Rattle.fields.specs.Answers.{spanned}
-use Rattle.fields.proofs.Strings.{span-read}
+use Rattle.fields.proofs.Strings.{span-read, string-got, string-stops}
 use Rattle.lists.specs.Lists.{dnsNameP}
-use Rattle.rules.proofs.Things.{dns-name-got, dns-name-stops}
 use Rattle.rules.proofs.AnyOf.{Left, any-next, any-found, any-stops, any-ends}
 use Rattle.rules.proofs.leaf.any_names.Statement.{statement}
 use Rattle.rules.proofs.leaf.any_names.Tie as tie
@@ -23,8 +22,8 @@ abbrev μ-loop : tie.MeasureT-loop
 loop-holds : tie.Need-loop-holds Inv-loop μ-loop
 loop-holds c = refl
 
-string-at-requires : tie.Need-string-at-requires Inv-loop μ-loop
-string-at-requires c κs = search needs
+dns-name-at-requires : tie.Need-dns-name-at-requires Inv-loop μ-loop
+dns-name-at-requires c κs = search needs
 
 enum-known-name : tie.Need-enum-known-name Inv-loop μ-loop
 enum-known-name c = search needs
@@ -36,16 +35,17 @@ matches-requires : tie.Need-matches-requires Inv-loop μ-loop
 matches-requires c κs =
     let n = c .before .before in
     let a = n .before .before in
-    let q = sym (a .string-at .ensures) ∙ ap spanned (n .name .given .1) in
+    let q = sym (a .dns-name-at .ensures) ∙ ap spanned (n .name .given .1) in
     rw (c .part .ensures) (span-read 1 253 _ _ _ _ q .few)
 
 returns : tie.Need-returns Inv-loop μ-loop
+unfolding dnsNameP
 returns c =
     let m = c .before in
     let n = m .before .before .before in
     let a = n .before .before in
-    let q = sym (a .string-at .ensures) ∙ ap spanned (n .name .given .1) in
-    any-found _ _ _ _ _ _ _ _ _ (a .before .before .loop .inv) (a .before .loop-test .taken) (dns-name-got _ _ _ _ q)
+    let q = sym (a .dns-name-at .ensures) ∙ ap spanned (n .name .given .1) in
+    any-found _ _ _ _ _ _ _ _ _ (a .before .before .loop .inv) (a .before .loop-test .taken) (string-got 1 253 _ _ _ _ q)
     (rw (m .before .part .ensures) at (sym (m .matches .ensures) ∙ c .if1 .taken))
 
 sub-left : tie.Need-sub-left Inv-loop μ-loop
@@ -55,22 +55,24 @@ loop-less : tie.Need-loop-less Inv-loop μ-loop
 loop-less c = search needs
 
 loop-again : tie.Need-loop-again Inv-loop μ-loop
+unfolding dnsNameP
 loop-again c =
     let m = c .before in
     let n = m .before .before .before in
     let a = n .before .before in
-    let q = sym (a .string-at .ensures) ∙ ap spanned (n .name .given .1) in
-    any-next _ _ _ _ _ _ _ _ _ (a .before .before .loop .inv) (a .before .loop-test .taken) (dns-name-got _ _ _ _ q)
+    let q = sym (a .dns-name-at .ensures) ∙ ap spanned (n .name .given .1) in
+    any-next _ _ _ _ _ _ _ _ _ (a .before .before .loop .inv) (a .before .loop-test .taken) (string-got 1 253 _ _ _ _ q)
     (rw (m .before .part .ensures) at (sym (m .matches .ensures) ∙ c .if1 .left))
 
 enum-told : tie.Need-enum-told Inv-loop μ-loop
 enum-told c = search needs
 
 returns-2 : tie.Need-returns-2 Inv-loop μ-loop
+unfolding dnsNameP
 returns-2 c =
     let a = c .before .before in
-    let q = sym (a .string-at .ensures) ∙ ap spanned (c .enum-told .given .1) in
-    any-stops _ _ _ _ _ _ _ _ (a .before .before .loop .inv) (a .before .loop-test .taken) (dns-name-stops _ _ _ q)
+    let q = sym (a .dns-name-at .ensures) ∙ ap spanned (c .enum-told .given .1) in
+    any-stops _ _ _ _ _ _ _ _ (a .before .before .loop .inv) (a .before .loop-test .taken) (string-stops 1 253 _ _ _ q)
 
 returns-3 : tie.Need-returns-3 Inv-loop μ-loop
 returns-3 c = any-ends _ _ _ _ _ _ _ (c .before .loop .inv) (c .loop-test .left)
@@ -82,7 +84,7 @@ any-names-spec =
     Inv-loop
     μ-loop
     loop-holds
-    string-at-requires
+    dns-name-at-requires
     enum-known-name
     part-requires
     matches-requires

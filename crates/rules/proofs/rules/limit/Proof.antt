@@ -1,8 +1,8 @@
 -- `limit` answers a certificate's path length, or no limit. Assumes nothing.
 use mathlib.Core.Path.{sym}
-use Rattle.policy.proofs.Once.{limit-given, no-limit}
-use Rattle.policy.proofs.judged.limit.Statement.{statement}
-use Rattle.policy.proofs.judged.limit.Tie as tie
+use Rattle.rules.proofs.Limits.{limit-given, no-limit}
+use Rattle.rules.proofs.rules.limit.Statement.{statement}
+use Rattle.rules.proofs.rules.limit.Tie as tie
 
 returns : tie.Need-returns
 returns c s = sym (limit-given _ s (c .if1 .taken))
