@@ -8,7 +8,7 @@ use native.Mathlib.Omega.{arith}
 use native.Mathlib.Nat.{sub-zero}
 use native.Mathlib.Numerals.{add-one}
 use lib.Dec.{ltb}
-use lib.ListN.{length, getD, set, replicate, length-append, length-replicate, List·getD-append}
+use lib.ListN.{length, getD, set, replicate, length-append, List·getD-append}
 use lib.Seq.{append-snoc, getD-at, set-at, getD-append-add}
 use borrow.Author.Tests.{ltb-true, ltb-false}
 use Rattle.rows.specs.Rows.{upTo, listing}
@@ -49,11 +49,6 @@ module _ (f : ℕ → ℕ) where
     pub listing-none : listing most 0 f ≡ replicate most 0
     unfolding listing upTo
     listing-none = rw sub-zero
-
-    pub listing-length : (n : ℕ) → n ≤ most → length (listing most n f) ≡ most
-    unfolding listing
-    listing-length n h =
-        rw (length-append (upTo f n) (replicate (most - n) 0), upTo-length n, length-replicate {A = ℕ} (most - n) 0) (omega arith)
 
     pub listing-next : (i : ℕ) → i < most → set (listing most i f) i (f i) ≡ listing most (i + 1) f
     unfolding listing upTo
