@@ -63,7 +63,7 @@ module _ (f : ℕ → ℕ) where
         let k : i < length (upTo f n) = rw (upTo-length n) h in
         List·getD-append (upTo f n) (replicate (most - n) 0) 0 i k ∙ upTo-at n i h
 
-    pub listing-past : (n i : ℕ) → n ≤ i → getD (listing most n f) i 0 ≡ 0
+    listing-past : (n i : ℕ) → n ≤ i → getD (listing most n f) i 0 ≡ 0
     unfolding listing
     listing-past n i h =
         let k : length (upTo f n) + (i - n) ≡ i = rw (upTo-length n) (omega arith) in

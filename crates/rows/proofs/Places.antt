@@ -121,7 +121,7 @@ module _ (test : ℕ → Bool) where
   unfolding rowOf
   row-none = refl
 
-  pub row-next : (i : ℕ) → rowOf test (i + 1) ≡ cond (test i) (joined (rowOf test i) i) (rowOf test i)
+  row-next : (i : ℕ) → rowOf test (i + 1) ≡ cond (test i) (joined (rowOf test i) i) (rowOf test i)
   unfolding rowOf
   row-next i = ap (rowOf test) (add-one i)
 

@@ -14,7 +14,7 @@ module _ {g : Places} {w v : Roots}
     qualifies-from : (q : List ℕ) → Simple g q → Qualifies v q → Qualifies w q
     qualifies-from q s x = (x .0, from q (x .0) s (x .1))
 
-    pub settles-agree : (k : ℕ) (o : Outcome) → Settles g w k o → Settles g v k o
+    settles-agree : (k : ℕ) (o : Outcome) → Settles g w k o → Settles g v k o
     settles-agree k (accepted p r s) a =
         record {
           simple = a .simple;
@@ -30,7 +30,7 @@ module _ {g : Places} {w v : Roots}
         record { spent = a .spent; more = a .more; none = λ q i y n h x. a .none q i y n h (qualifies-from q y x) }
 
     module _ {k : ℕ} {a : Answer} where
-      pub tells-agree : {o : Outcome} → Tells g w k a o → Tells g v k a o
+      tells-agree : {o : Outcome} → Tells g w k a o → Tells g v k a o
       tells-agree {o} x = record { settled = settles-agree k o (x .settled); says = x .says; shows = x .shows }
 
       pub paused-agree : {before after : List ℕ} → Paused g w k before after a → Paused g v k before after a
