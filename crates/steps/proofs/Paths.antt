@@ -7,7 +7,7 @@ use native.Mathlib.Omega.{arith}
 use lib.ListN.{length, drop, getD, length-drop}
 use lib.Seq.{getD-drop, getD-take, length-take-le}
 use lib.Dec.{eqb}
-use Rattle.steps.specs.Slots.{pathOf, HoldsPath}
+use Rattle.steps.specs.Parts.{pathOf, HoldsPath}
 use Rattle.order.specs.Walk.{used, last}
 
 or-assoc : (a b c : Bool) → _||_ a (_||_ b c) ≡ _||_ (_||_ a b) c

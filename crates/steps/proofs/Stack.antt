@@ -10,7 +10,8 @@ use Rattle.order.specs.Listing.{_among_}
 use Rattle.order.specs.Paths.{Places, Simple}
 use Rattle.order.proofs.Lists.{mem-at}
 use Rattle.order.proofs.Simple.{simple-length}
-use Rattle.steps.specs.Slots.{padded, slotOf, flat, pathOf, HoldsPath}
+use Rattle.steps.specs.Parts.{pathOf, HoldsPath}
+use Rattle.steps.specs.Slots.{padded, slotOf, flat}
 
 -- ---- slots
 

@@ -17,8 +17,8 @@ ghost use Rattle.order.specs.Paths.{Simple};
 ghost use Rattle.policy.specs.Judging.{judgedRoot, topOf};
 ghost use Rattle.rows.specs.Rows.{has};
 ghost use Rattle.steps.specs.Answer.{issuers, placesBy};
-ghost use Rattle.steps.specs.Parts.{goes, grown};
-ghost use Rattle.steps.specs.Slots.{slotOf, flat, pathOf, HoldsPath};
+ghost use Rattle.steps.specs.Parts.{pathOf, HoldsPath, goes, grown};
+ghost use Rattle.steps.specs.Slots.{slotOf, flat};
 
 // The places by which s's path goes on, as a row.
 fn next_places(s: [u8; Slot::BYTES], rows: &[u64; Bundle::MOST]) -> u64
