@@ -12,10 +12,10 @@ ghost use Rattle.steps.specs.Parts.{pathOf};
 ghost use Rattle.steps.specs.Slots.{slotOf};
 
 // A slot: a length, then as many places as a path can have.
-pub(crate) struct Slot {}
+pub struct Slot {}
 
 impl Slot {
-    pub const BYTES: usize = 17;
+    pub const BYTES: usize = Bundle::MOST + 1;
 }
 
 // The bytes of slot t.

@@ -1,5 +1,5 @@
 // One step: the places by which a path goes on, its children laid in the room, and its root.
-use crate::room::Slot;
+use crate::Slot;
 use crate::room::write_slot;
 use card::Bundle;
 use card::Roots;
