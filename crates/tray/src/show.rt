@@ -1,5 +1,6 @@
 // What is written of a case: its label, the terminal's line, and the room as slots.
 use crate::lines::end_at;
+use crate::lines::run_end;
 use libc::STDOUT_FILENO;
 use report::line_of;
 use steps::Answer;
@@ -7,7 +8,7 @@ use steps::Slot;
 ghost use Prim.Native.Nat.{_≤_};
 ghost use lib.ListN.{length};
 
-pub fn answer(label: &[u8], answer: Answer, room: &[u8]) {
+pub(crate) fn answer(label: &[u8], answer: Answer, room: &[u8]) {
     put(label);
     put(b": ");
     reply(answer);
@@ -90,18 +91,6 @@ fn place(i: usize, place: usize) {
         return;
     }
     count(b",", place as u64);
-}
-
-// Where the bytes b from a place on end.
-fn run_end(s: &[u8], from: usize, b: u8) -> usize
-    requires { ⌜ from ≤ length (now s) ⌝ }
-    ensures { λ r. ⌜ (from ≤ r) × (r ≤ length (now (s .entry))) ⌝ }
-{
-    let mut i = from;
-    while i < s.len() && s[i] == b {
-        i += 1;
-    }
-    i
 }
 
 fn wide(x: u8) -> usize
