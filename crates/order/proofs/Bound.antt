@@ -62,7 +62,7 @@ module _ (g : Places) where
     low-bound [] l = omega arith
     low-bound (p ∷ s) l = omega (arith, l .0)
 
-    pub waiting-bound : {ps : List (List ℕ)} → Listing g ps → {k : ℕ} {ws : List (List ℕ)} → Waiting ps k ws
+    waiting-bound : {ps : List (List ℕ)} → Listing g ps → {k : ℕ} {ws : List (List ℕ)} → Waiting ps k ws
         → 2 * length ws ≤ (g .size - 1) * (g .size - 2) + 2
     waiting-bound l {k} {ws} w =
         let two : g .size - 2 ≡ g .size - 1 - 1 = omega arith in
@@ -70,7 +70,7 @@ module _ (g : Places) where
 
   -- ---- in slots
 
-  pub after-bound : 0 < g .size → {k : ℕ} {ws : List (List ℕ)} → After g k ws → length ws ≤ formula (g .size)
+  after-bound : 0 < g .size → {k : ℕ} {ws : List (List ℕ)} → After g k ws → length ws ≤ formula (g .size)
   after-bound some (ps, l, w) = omega (arith, waiting-bound some l w)
 
   -- as many slots as the table says are enough

@@ -14,7 +14,7 @@ use Rattle.order.specs.Walk.{put, keep}
 -- ---- membership
 
 module _ {A : Type 0} where
-  pub mem-split : {x : A} {xs : List A} → x among xs → (a b : List A) × (xs ≡ a ++ x ∷ b)
+  mem-split : {x : A} {xs : List A} → x among xs → (a b : List A) × (xs ≡ a ++ x ∷ b)
   mem-split (here {xs} e) = ([], xs, ap (λ y. y ∷ xs) (sym e))
   mem-split (there {x} m) = let (a, b, e) = mem-split m in (x ∷ a, b, ap (λ r. x ∷ r) e)
 
@@ -28,7 +28,7 @@ module _ {A : Type 0} where
   mem-at (x ∷ xs) (suc k) d h = there (mem-at xs k d (le-of-suc-le-suc h))
 
   -- without one element that is not y, y is still there
-  pub mem-drop : (a b : List A) {x y : A} → y among (a ++ x ∷ b) → y ≢ x → y among (a ++ b)
+  mem-drop : (a b : List A) {x y : A} → y among (a ++ x ∷ b) → y ≢ x → y among (a ++ b)
   mem-drop a b m h = ⊎-elim (λ l. Memᴰ·append-left b l) (λ r. Memᴰ·append-right a (⊎-elim (λ e. absurd (h e)) (λ t. t) (List·Memᴰ·cases-cons r))) (List·Memᴰ·append-cases a m)
 
   pub none-nil : (xs : List A) → ((x : A) → x among xs → ⊥) → xs ≡ []
@@ -148,7 +148,7 @@ module _ {A B : Type 0} {R : A → A → Type 0} {S : B → B → Type 0} where
 
 module _ {A : Type 0} {R : A → A → Type 0} (irrefl : (x : A) → R x x → ⊥) (trans : (x y z : A) → R x y → R y z → R x z) where
   -- two sorted lists with the same elements are one
-  pub sorted-same : {xs ys : List A} → Sorted R xs → Sorted R ys → ((x : A) → x among xs → x among ys) → ((x : A) → x among ys → x among xs) → xs ≡ ys
+  sorted-same : {xs ys : List A} → Sorted R xs → Sorted R ys → ((x : A) → x among xs → x among ys) → ((x : A) → x among ys → x among xs) → xs ≡ ys
   sorted-same nil nil f b = refl
   sorted-same nil (cons {x = y} h t) f b = absurd (List·Memᴰ·not-nil (b y (here refl)))
   sorted-same (cons {x} h s) nil f b = absurd (List·Memᴰ·not-nil (f x (here refl)))

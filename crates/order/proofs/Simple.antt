@@ -53,11 +53,11 @@ pub mem-down : (n : ℕ) {i : ℕ} → i < n → i among down n
 mem-down zero h = absurd (not-suc-le-zero h)
 mem-down (suc n) h = ⊎-elim (λ e. here e) (λ k. there (mem-down n k)) (eq-or-lt-of-le (le-of-suc-le-suc h))
 
-pub length-down : (n : ℕ) → length (down n) ≡ n
+length-down : (n : ℕ) → length (down n) ≡ n
 length-down zero = refl
 length-down (suc n) = ap suc (length-down n)
 
-pub sorted-down : (n : ℕ) → Sorted (λ a b. b < a) (down n)
+sorted-down : (n : ℕ) → Sorted (λ a b. b < a) (down n)
 sorted-down zero = nil
 sorted-down (suc n) = cons (λ y m. down-mem n m) (sorted-down n)
 

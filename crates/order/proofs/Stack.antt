@@ -21,7 +21,7 @@ front-snoc (x ∷ []) i = refl
 front-snoc (x ∷ y ∷ p) i = ap (λ r. x ∷ r) (front-snoc (y ∷ p) i)
 
 module _ (g : Places) where
-  pub kid-front : (p : List ℕ) {c : List ℕ} → c among kids g p → dropLast c ≡ p
+  kid-front : (p : List ℕ) {c : List ℕ} → c among kids g p → dropLast c ≡ p
   kid-front p m = let (i, _, e) = kids-mem g p m in ap dropLast (sym e) ∙ front-snoc p i
 
 module _ (g : Places) (some : 0 < g .size) where

@@ -20,7 +20,7 @@ module _ (g : Places) where
   unfolding kids
   kids-mem p m = Memᴰ·of-map (snoc p) (next g p) m
 
-  pub mem-kids : {p : List ℕ} (i : ℕ) → Simple g p → Simple g (snoc p i) → snoc p i among kids g p
+  mem-kids : {p : List ℕ} (i : ℕ) → Simple g p → Simple g (snoc p i) → snoc p i among kids g p
   unfolding kids
   mem-kids {p} i s q = Memᴰ·map (snoc p) (next-lists g s .all i q)
 
@@ -100,7 +100,7 @@ module _ (g : Places) where
       ⊎-elim (λ e. rw e s) (λ (c, k, l). ih c k q l) (visit-cases s m))
 
   -- with a path its children
-  pub visit-closed : {p : List ℕ} → Simple g p → (q c : List ℕ) → q among visit g p → c among kids g q → c among visit g p
+  visit-closed : {p : List ℕ} → Simple g p → (q c : List ℕ) → q among visit g p → c among kids g q → c among visit g p
   visit-closed = tree (λ p. (q c : List ℕ) → q among visit g p → c among kids g q → c among visit g p) (λ p s ih q c m k.
       ⊎-elim (λ e. visit-below s (rw e at k) (visit-self c)) (λ (d, l, m′). visit-below s l (ih d l q c m′ k)) (visit-cases s m))
 

@@ -8,7 +8,7 @@ use native.Mathlib.Omega.{arith}
 use lib.ListN.{length, take, drop, getD, length-drop, take-append-drop, drop-of-length-le}
 use lib.Seq.{getD-drop}
 use Rattle.order.specs.Listing.{_among_, nil}
-use Rattle.order.specs.Paths.{Places, Simple, Listing, Rank, Count}
+use Rattle.order.specs.Paths.{Places, Simple, Listing, Rank}
 use Rattle.order.specs.Waiting.{Waiting, After}
 use Rattle.order.specs.Walk.{kids, visit, paths, pop, stack, taken}
 use Rattle.order.proofs.Lists.{lists-unique}
@@ -88,16 +88,3 @@ module _ (g : Places) where
   after-step {k} (ps, l, w) =
       let (h, e, v) = waiting-step g (waiting-size l w) l k w in
       (rw e at (rank-at g l k h), (ps, l, v))
-
-  -- nothing waits when all are taken, and not before
-  pub after-end : {k : ℕ} → After g k [] ↔ ((c : ℕ) × Count g c × (c ≤ k))
-  after-end {k} = (
-    λ (ps, l, w). (
-      length ps,
-      (ps, l, refl),
-      ⊎-elim
-          (λ e. rw (listing-unique g l (none-listing g e)) (omega arith))
-          (λ some. waiting-end g some l k .0 w) (eq-zero-or-pos (g .size)),
-    ),
-    λ (c, (ps, l, e), h). (ps, l, none-waiting ps k (omega arith)),
-  )

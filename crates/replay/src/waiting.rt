@@ -1,18 +1,13 @@
 // The paused run, and the paths that wait after it.
 use crate::say;
-use card::Bundle;
 use libc::STDOUT_FILENO;
+use report::Room;
 use report::line_of;
 use search::paused;
 use steps::Answer;
+use steps::Slot;
 ghost use Prim.Native.Nat.{_≤_};
 ghost use lib.ListN.{length};
-
-// The bytes of a slot: a length, then as many places as a path can have.
-const SLOT: usize = Bundle::MOST + 1;
-
-// More bytes than any card's slots have.
-const ROOM: usize = 2048;
 
 // Where the name in K:NAME begins; 0 where there is no colon.
 pub(crate) fn name_at(word: &[u8]) -> usize
@@ -49,7 +44,7 @@ fn digit(b: u8) -> u64
 }
 
 pub(crate) fn pause(file: &[u8], k: u64) {
-    let mut room = [0u8; ROOM];
+    let mut room = [0u8; Room::BYTES];
     run(file, k, &mut room);
 }
 
@@ -68,13 +63,13 @@ fn line(answer: Answer) {
 // Writes the paths in the lowest slots.
 fn paths(room: &[u8]) {
     let mut at: usize = 0;
-    while SLOT <= room.len() - at {
-        let slot = &room[at..at + SLOT];
+    while Slot::BYTES <= room.len() - at {
+        let slot = &room[at..at + Slot::BYTES];
         if slot[0] == 0 {
             return;
         }
         path(slot);
-        at += SLOT;
+        at += Slot::BYTES;
     }
 }
 

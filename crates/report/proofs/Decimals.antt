@@ -24,12 +24,12 @@ enough (suc k) (suc m) n h g = by-size (ltb n 10) refl (λ l. enough k m (n / 10
     by-size true e r = refl
     by-size false e r = ap (λ (d : List ℕ). d ++ (digit (n % 10) ∷ [])) (r (ltb-false n 10 e))
 
-pub decimal-one : (n : ℕ) → n < 10 → decimal n ≡ digit n ∷ []
+decimal-one : (n : ℕ) → n < 10 → decimal n ≡ digit n ∷ []
 unfolding decimalIn decimal
 decimal-one zero h = refl
 decimal-one (suc n) h = rw (lt-ltb (suc n) 10 h)
 
-pub decimal-more : (n : ℕ) → 10 ≤ n → decimal n ≡ decimal (n / 10) ++ (digit (n % 10) ∷ [])
+decimal-more : (n : ℕ) → 10 ≤ n → decimal n ≡ decimal (n / 10) ++ (digit (n % 10) ∷ [])
 unfolding decimalIn decimal
 decimal-more zero h = absurd (omega arith)
 decimal-more (suc n) h =
@@ -37,7 +37,7 @@ decimal-more (suc n) h =
     (ap (λ (d : List ℕ). d ++ (digit (suc n % 10) ∷ [])) (enough n (suc n / 10) (suc n / 10) (omega arith) (omega arith)))
 
 -- a number below 10 ^ (k + 1) has at most k + 1 digits
-pub decimal-length : (k n : ℕ) → n < 10 ^ suc k → length (decimal n) ≤ suc k
+decimal-length : (k n : ℕ) → n < 10 ^ suc k → length (decimal n) ≤ suc k
 decimal-length zero n h = rw (decimal-one n h) (omega arith)
 decimal-length (suc k) n h =
     let s : n < 10 ^ suc k * 10 = rw pow-suc at h in

@@ -9,7 +9,7 @@ use Rattle.certificates.specs.declared.places.BundlePlace.{BundlePlace}
 use Rattle.order.specs.Paths.{Places}
 use Rattle.steps.specs.declared.Answer.{Answer}
 use Rattle.steps.specs.declared.Reply.the-variants as reply
-use Rattle.steps.specs.Answer.{Tells, Stops, tells, saying, shown, placed, pathShown}
+use Rattle.steps.specs.Answer.{Tells, Stops, telling, saying, shown, placed, pathShown}
 use Rattle.steps.specs.Settles.{Roots, Outcome}
 use Rattle.steps.specs.Slots.{padded}
 use Rattle.report.specs.Lines.{lineOf, newline, numberOf, placesIn, spaced, toldLine, wordsFor}
@@ -30,7 +30,7 @@ path-places p =
 pub line-tells : {g : Places} {w : Roots} {k : ℕ} {a : Answer} {o : Outcome} → Tells g w k a o → lineOf a ≡ toldLine (saying o) (shown o)
 line-tells {o = o} t = rw (t .says, t .shows, path-places (shown o))
 
-pub line-stops : {e : ℕ} {before after : List ℕ} {a : Answer} → Stops e before after a → lineOf a ≡ toldLine (tells e 0 0) []
+pub line-stops : {e : ℕ} {before after : List ℕ} {a : Answer} → Stops e before after a → lineOf a ≡ toldLine (telling e 0 0) []
 line-stops t = rw (t .says, t .shows, path-places [])
 
 -- ---- lines

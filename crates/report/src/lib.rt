@@ -6,6 +6,7 @@ mod reply;
 use card::Bundle;
 use card::RootPlace;
 pub use line::Line;
+pub use reply::Room;
 pub use reply::reply_to;
 use steps::Answer;
 use steps::Path;

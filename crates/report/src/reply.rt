@@ -2,16 +2,19 @@
 use crate::Line;
 use crate::line_of;
 use search::search;
+use steps::Slot;
 ghost use Rattle.card.specs.Content.{contentP};
 ghost use Rattle.io.specs.Counts.{Counts};
 ghost use Rattle.report.specs.Replying.{Replies};
 
 // The room that a search is lent here.
-struct Room {}
+pub struct Room {}
 
 impl Room {
-    // 106 slots of 17 bytes: what the printed table asks for 16 certificates.
-    const BYTES: usize = 1802;
+    // What the printed table asks for 16 certificates.
+    const SLOTS: usize = 106;
+
+    pub const BYTES: usize = Room::SLOTS * Slot::BYTES;
 }
 
 // The second clause follows from the first; with it, `&bytes[..length]` needs no proof.

@@ -1,9 +1,8 @@
 -- What the places of a row are, for those who keep sets in rows.
 -- One place: `has-at`, `has-past`, `joined-at`, `joined-past` by its number, then `has-none`, `has-joined`, `has-left` for what makes a row.
--- The row of a test: `has-row`; `row-below` and `row-fits` for its size; `row-none`, `row-next`, `row-more`, `row-kept` for a loop; `row-same`.
+-- The row of a test: `has-row`; `row-none`, `row-more`, `row-kept` for a loop.
 -- The first that passes a test: `seek-least` says in words what it is, `seek-is` that nothing else is that; `seek-same`.
--- The lowest place: `lowest-least`, `lowest-seeks`; of a test's row, from the test (`lowest-row`) and from the lowest place
--- (`seek-lowest`, `seek-end`). A row without its lowest place: `dropped-above`, `dropped-below`, `dropped-later`.
+-- The lowest place: `lowest-least`. A row without its lowest place: `dropped-above`, `dropped-below`, `dropped-later`.
 -- What the code's words say of a row is in Words. Assumes nothing.
 use Prim.Native.Nat.{ℕ, zero, suc, _+_, _/_, _%_, _^_, _≤_, _<_}
 use mathlib.Core.Bool.{Bool, true, false, cond, not, _&&_, _||_, false≢true}
@@ -13,7 +12,7 @@ use native.Mathlib.Nat.{pow-zero, pow-suc, div-one, div-eq-of-lt, mul-div-mul-ri
 use native.Mathlib.Numerals.{add-one}
 use native.Mathlib.Omega.{arith}
 use borrow.Author.Tests.{ltb-true, ltb-false, eqb-true, lt-ltb, le-ltb, eq-eqb, ne-eqb}
-use lib.Bits.{bitOr, bitAnd, bitXor, or-shr, or-mod, or-lt, xor-shr, xor-mod, and-shr, and-mod}
+use lib.Bits.{bitOr, bitAnd, bitXor, or-shr, or-mod, xor-shr, xor-mod, and-shr, and-mod}
 use lib.Dec.{eqb, ltb, lit<, eqb·zero-suc, eqb·suc-zero, eqb·suc-suc}
 use lib.Pow.{pow-lt}
 use Rattle.rows.specs.Rows.{has, joined, left, seek, lowest, rowOf}
@@ -115,22 +114,6 @@ has-left i row taken = go (ltb i 64)
     go true = digit-but i row taken
     go false = refl
 
-joined-lt : (k row i : ℕ) → row < 2 ^ k → 2 ^ i < 2 ^ k → joined row i < 2 ^ k
-unfolding joined
-joined-lt k row i h p = go (ltb i 64)
-  where
-    go : (b : Bool) → cond b (bitOr row (2 ^ i)) row < 2 ^ k
-    go true = or-lt k row (2 ^ i) h p
-    go false = h
-
-joined-fits : (row i : ℕ) → row < 2 ^ 64 → joined row i < 2 ^ 64
-unfolding joined
-joined-fits row i h = go (ltb i 64) refl
-  where
-    go : (b : Bool) → ltb i 64 ≡ b → cond b (bitOr row (2 ^ i)) row < 2 ^ 64
-    go true e = or-lt 64 row (2 ^ i) h (pow-lt {i = i} {j = 64} (ltb-true i 64 e))
-    go false e = h
-
 -- ---- the row of a test
 
 module _ (test : ℕ → Bool) where
@@ -138,7 +121,7 @@ module _ (test : ℕ → Bool) where
   unfolding rowOf
   row-none = refl
 
-  pub row-next : (i : ℕ) → rowOf test (i + 1) ≡ cond (test i) (joined (rowOf test i) i) (rowOf test i)
+  row-next : (i : ℕ) → rowOf test (i + 1) ≡ cond (test i) (joined (rowOf test i) i) (rowOf test i)
   unfolding rowOf
   row-next i = ap (rowOf test) (add-one i)
 
@@ -180,30 +163,6 @@ module _ (test : ℕ → Bool) where
           → has i (cond b (joined (rowOf test n) n) (rowOf test n)) ≡ ltb i (suc n) && test i
       go true e r = has-joined i (rowOf test n) n ∙ rw (r, lt-ltb n 64 (omega arith)) (wider n i e)
       go false e r = r ∙ same-width n i e
-
-  -- the row's number has no digit past the test's places, and none past the row's
-  pub row-below : (n : ℕ) → rowOf test n < 2 ^ n
-  unfolding rowOf
-  row-below zero = lit< tt
-  row-below (suc n) = go (test n) (row-below n)
-    where
-      go : (b : Bool) → rowOf test n < 2 ^ n → cond b (joined (rowOf test n) n) (rowOf test n) < 2 ^ suc n
-      go true h = joined-lt (suc n) (rowOf test n) n (omega (arith, pow-suc 2 n)) (pow-lt {i = n} {j = suc n} (omega arith))
-      go false h = omega (arith, pow-suc 2 n)
-
-  pub row-fits : (n : ℕ) → rowOf test n < 2 ^ 64
-  unfolding rowOf
-  row-fits zero = lit< tt
-  row-fits (suc n) = go (test n) (row-fits n)
-    where
-      go : (b : Bool) → rowOf test n < 2 ^ 64 → cond b (joined (rowOf test n) n) (rowOf test n) < 2 ^ 64
-      go true h = joined-fits (rowOf test n) n h
-      go false h = h
-
-pub row-same : (f g : ℕ → Bool) (n : ℕ) → ((i : ℕ) → i < n → f i ≡ g i) → rowOf f n ≡ rowOf g n
-unfolding rowOf
-row-same f g zero h = refl
-row-same f g (suc n) h = rw (h n (omega arith), row-same f g n (λ i k. h i (omega arith)))
 
 -- ---- the first that passes a test
 
@@ -248,10 +207,6 @@ pub lowest-least : (row : ℕ) → Least (λ i. has i row) 0 64 (lowest row)
 unfolding lowest
 lowest-least row = seek-least (λ i. has i row) 0 64
 
-pub lowest-seeks : (test : ℕ → Bool) (row : ℕ) → ((i : ℕ) → i < 64 → has i row ≡ test i) → lowest row ≡ seek test 0 64
-unfolding lowest
-lowest-seeks test row h = seek-same (λ i. has i row) test 0 64 (λ i k m. h i (omega arith))
-
 -- a row without its lowest place, for a loop that takes the places one by one
 module _ (row : ℕ) (some : lowest row < 64) where
   has-dropped : (j : ℕ) → has j (left row (joined 0 (lowest row))) ≡ has j row && not (eqb j (lowest row))
@@ -275,65 +230,3 @@ module _ (row : ℕ) (some : lowest row < 64) where
       let next : ℕ = left row (joined 0 (lowest row)) in
       let k : ¬ (lowest next ≤ lowest row) = λ k. false≢true (sym (dropped-below (lowest next) k) ∙ lowest-least next .passes (omega arith)) in
       omega arith
-
-module _ (test : ℕ → Bool) (n : ℕ) (room : n ≤ 64) where
-  -- some place passes
-  pub lowest-found : seek test 0 n < n → lowest (rowOf test n) ≡ seek test 0 n
-  unfolding lowest
-  lowest-found h =
-      let s : ℕ = seek test 0 n in
-      let l : Least test 0 n s = seek-least test 0 n in
-      sym
-      (seek-is (λ i. has i (rowOf test n)) 0 64 s
-      record {
-        from = omega arith;
-        within = omega arith;
-        below = λ i k m. has-row test n i room ∙ rw (l .below i k m) (and-no (ltb i n));
-        passes = λ k. has-row test n s room ∙ rw (lt-ltb s n h) (l .passes (omega arith));
-      })
-
-  -- none does
-  pub lowest-lacks : n ≤ seek test 0 n → lowest (rowOf test n) ≡ 64
-  unfolding lowest
-  lowest-lacks h =
-      sym
-      (seek-is (λ i. has i (rowOf test n)) 0 64 64
-      record {
-        from = omega arith;
-        within = omega arith;
-        below = λ i k m. has-row test n i room ∙ lacks i (ltb i n) refl;
-        passes = λ k. absurd (omega arith);
-      })
-    where
-      lacks : (i : ℕ) (b : Bool) → ltb i n ≡ b → b && test i ≡ false
-      lacks i true e = seek-least test 0 n .below i (omega arith) (omega (arith, ltb-true i n e))
-      lacks i false e = refl
-
-  pub lowest-row : lowest (rowOf test n) ≡ cond (ltb (seek test 0 n) n) (seek test 0 n) 64
-  lowest-row = go (ltb (seek test 0 n) n) refl
-    where
-      go : (b : Bool) → ltb (seek test 0 n) n ≡ b → lowest (rowOf test n) ≡ cond b (seek test 0 n) 64
-      go true e = lowest-found (ltb-true (seek test 0 n) n e)
-      go false e = lowest-lacks (ltb-false (seek test 0 n) n e)
-
-  -- the same from what the code sees
-  pub lowest-in : lowest (rowOf test n) < 64 → lowest (rowOf test n) < n
-  lowest-in h = go (ltb (seek test 0 n) n) refl
-    where
-      go : (b : Bool) → ltb (seek test 0 n) n ≡ b → lowest (rowOf test n) < n
-      go true e = let k : seek test 0 n < n = ltb-true (seek test 0 n) n e in omega (arith, lowest-found k)
-      go false e = absurd (omega (arith, lowest-lacks (ltb-false (seek test 0 n) n e)))
-
-  pub seek-lowest : lowest (rowOf test n) < 64 → seek test 0 n ≡ lowest (rowOf test n)
-  seek-lowest h = go (ltb (seek test 0 n) n) refl
-    where
-      go : (b : Bool) → ltb (seek test 0 n) n ≡ b → seek test 0 n ≡ lowest (rowOf test n)
-      go true e = sym (lowest-found (ltb-true (seek test 0 n) n e))
-      go false e = absurd (omega (arith, lowest-lacks (ltb-false (seek test 0 n) n e)))
-
-  pub seek-end : n ≤ lowest (rowOf test n) → seek test 0 n ≡ n
-  seek-end h = go (ltb (seek test 0 n) n) refl
-    where
-      go : (b : Bool) → ltb (seek test 0 n) n ≡ b → seek test 0 n ≡ n
-      go true e = let k : seek test 0 n < n = ltb-true (seek test 0 n) n e in absurd (omega (arith, lowest-found k))
-      go false e = omega (arith, ltb-false (seek test 0 n) n e, seek-least test 0 n .within)

@@ -25,7 +25,7 @@ use Rattle.steps.proofs.Agree.{paused-agree, searched-agree}
 use Rattle.search.specs.declared.Question.{Question}
 use Rattle.search.specs.Question.{PutFrom}
 use Rattle.search.specs.Search.{placesIn, Search, Pause}
-use Rattle.search.proofs.Meaning.{size-read, places-read, rootsRead, reaches-content, reaches-rows}
+use Rattle.search.proofs.Meaning.{size-read, places-read, rootsRead, qualifies-content, qualifies-rows}
 
 answered-map : {P Q : Type 0} {e : ℕ} {before after : List ℕ} {a : Answer} → (P → Q) → Answered P e before after a → Answered Q e before after a
 answered-map f x = record { runs = λ h. f (x .runs h); stops = x .stops }
@@ -79,14 +79,14 @@ module _ (s : List ℕ) (q : Question) (p : PutFrom s q) where
           → Search (contentP s) before after a
       searched x =
           rw content-is
-          (answered-map (searched-agree (reaches-content s c (w .end) t) (reaches-rows s c (w .end) t)) (same-search places roots budget size x))
+          (answered-map (searched-agree (qualifies-content s c (w .end) t) (qualifies-rows s c (w .end) t)) (same-search places roots budget size x))
 
       pub held-paused : (k : ℕ) → Answered (Paused (placesOf (q .issuing) (q .size)) (rootsOf (q .issuing) (q .judged)) k before after a)
           (fault (q .size) (length before)) before after a
           → Pause (contentP s) k before after a
       held-paused k x =
           rw content-is
-          (answered-map (paused-agree (reaches-content s c (w .end) t) (reaches-rows s c (w .end) t)) (same-pause places roots size x))
+          (answered-map (paused-agree (qualifies-content s c (w .end) t) (qualifies-rows s c (w .end) t)) (same-pause places roots size x))
 
   -- ---- a file that can't be read
 

@@ -1,5 +1,5 @@
 -- On a card that was read, the rows and judged places say what the content says: the same places (`places-read`), and for a simple path the
--- same roots (`reaches-content`, `reaches-rows`). Assumes nothing.
+-- same roots (`qualifies-content`, `qualifies-rows`). Assumes nothing.
 use mathlib.Core.Bool.{Bool, true, false, false≢true}
 use mathlib.Core.List.{List, [], _∷_, List·Memᴰ·head as here, List·Memᴰ·tail as there}
 use mathlib.Core.Path.{_≡_, refl, sym, ap₂, _∙_, fun-ext}
@@ -25,7 +25,7 @@ use Rattle.policy.specs.Sound.{soundPlaces, placeLimits, rootsAbove, rootLimits
 use Rattle.policy.proofs.Qualified.{root-judged, qualifies-there, last-inside}
 use Rattle.policy.proofs.Seats.{Inside}
 use Rattle.steps.specs.Answer.{placesBy, rootsBy, qualifiesBy}
-use Rattle.steps.specs.Settles.{Roots, Reaches}
+use Rattle.steps.specs.Settles.{Roots, QualifiesBy}
 use Rattle.search.specs.Search.{placesIn, rootsIn}
 
 inside-all : (n : ℕ) (l : List ℕ) → ((x : ℕ) → x among l → x < n) → Inside n l
@@ -68,21 +68,21 @@ module _ (s : List ℕ) (c : Card) (e : ℕ) (t : CardRead s c e) where
           let low : lastOf 0 l < 16 = let a = last-inside (c .bundle .count) 0 l some inside in omega arith in
           rw (q, lt-ltb (lastOf 0 l) 16 low) (root-judged s c e t l some inside (omega arith) r)
 
-  pub reaches-content : (p : List ℕ) (r : ℕ) → Simple (placesIn content) p → Reaches rootsRead p r → Reaches (rootsIn content) p r
-  reaches-content p r h x = by-test (ltb r (length (content .roots))) refl
+  pub qualifies-content : (p : List ℕ) (r : ℕ) → Simple (placesIn content) p → QualifiesBy rootsRead p r → QualifiesBy (rootsIn content) p r
+  qualifies-content p r h x = by-test (ltb r (length (content .roots))) refl
     where
       good : qualifies content p r ≡ true
       good = sym (qualifies-read p r h) ∙ x .1
 
-      by-test : (b : Bool) → ltb r (length (content .roots)) ≡ b → Reaches (rootsIn content) p r
+      by-test : (b : Bool) → ltb r (length (content .roots)) ≡ b → QualifiesBy (rootsIn content) p r
       by-test true k = (ltb-true r (length (content .roots)) k, good)
       by-test false k =
           let m = ltb-false r (length (content .roots)) k in
           let n = roots-counted s c e t in
           absurd (false≢true (sym (qualifies-there s c e t p r (omega arith)) ∙ good))
 
-  pub reaches-rows : (p : List ℕ) (r : ℕ) → Simple (placesIn content) p → Reaches (rootsIn content) p r → Reaches rootsRead p r
-  reaches-rows p r h x =
+  pub qualifies-rows : (p : List ℕ) (r : ℕ) → Simple (placesIn content) p → QualifiesBy (rootsIn content) p r → QualifiesBy rootsRead p r
+  qualifies-rows p r h x =
       let m = roots-few s c e t in
       let n = x .0 in
       (omega arith, qualifies-read p r h ∙ x .1)

@@ -14,7 +14,7 @@ use Rattle.card.specs.declared.Card.{Card}
 use Rattle.card.proofs.Stops.{file-stops}
 use Rattle.steps.specs.declared.Answer.{Answer}
 use Rattle.steps.specs.declared.Reply.the-variants as reply
-use Rattle.steps.specs.Answer.{tells, Paused, Searched, fault}
+use Rattle.steps.specs.Answer.{telling, Paused, Searched, fault}
 use Rattle.steps.proofs.Total as total
 use Rattle.steps.proofs.Total.{Some, stops-some}
 use Rattle.steps.proofs.Unique.{Same, paused-unique, searched-unique, stops-unique, answered-unique}
@@ -68,7 +68,7 @@ module _ (s before : List ℕ) where
       by-content (got c e) k = some c
       by-content (stop r) k =
           let (l, h) = content-stops s r k in
-          stops-some r (reply.Unread (faultOf r)) before (ap (λ n. tells n 0 0) (number-again r l h))
+          stops-some r (reply.Unread (faultOf r)) before (ap (λ n. telling n 0 0) (number-again r l h))
 
   pub search-some : Some (λ after a. Search (contentP s) before after a)
   search-some = answers-some (λ after a c. Searched (placesIn c) (rootsIn c) (c .budget) before after a)

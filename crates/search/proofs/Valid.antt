@@ -17,7 +17,7 @@ use Rattle.policy.specs.Policy.{policy, chainOf}
 use Rattle.policy.specs.Qualifies.{reaches}
 use Rattle.steps.specs.declared.Answer.{Answer}
 use Rattle.steps.specs.Answer.{told, saying, Searched, fault}
-use Rattle.steps.specs.Settles.{Reaches, Outcome, accepted, refused, exhausted, Settles}
+use Rattle.steps.specs.Settles.{QualifiesBy, Outcome, accepted, refused, exhausted, Settles}
 use Rattle.steps.proofs.Unique.{covers}
 use Rattle.search.specs.Search.{placesIn, rootsIn, Search}
 use Rattle.search.specs.Valid.{at, SimplePath, ToRoot, Satisfies, Valid}
@@ -95,13 +95,13 @@ module _ (c : Content) where
   both true false h = absurd (false≢true h)
   both false b h = absurd (false≢true h)
 
-  to-root : (p : List ℕ) (r : ℕ) → Simple (placesIn c) p → Reaches (rootsIn c) p r → ToRoot c p r × Satisfies c p r
+  to-root : (p : List ℕ) (r : ℕ) → Simple (placesIn c) p → QualifiesBy (rootsIn c) p r → ToRoot c p r × Satisfies c p r
   to-root [] r s x = absurd (false≢true (x .1))
   to-root (y ∷ l) r s x =
       let (i, j) = both (issued c (root r) (lastOf y l)) (policy (c .now) (c .host) (chainOf c y l r)) (x .1) in
       (record { there = x .0; simple = to-upstream (y ∷ l) s; issues = rw (← last-at y l) i }, j)
 
-  from-root : (p : List ℕ) (r : ℕ) → ToRoot c p r → Satisfies c p r → Reaches (rootsIn c) p r
+  from-root : (p : List ℕ) (r : ℕ) → ToRoot c p r → Satisfies c p r → QualifiesBy (rootsIn c) p r
   from-root [] r x y = absurd y
   from-root (z ∷ l) r x y =
       let i : issued c (root r) (lastOf z l) ≡ true = rw (last-at z l) (x .issues) in
@@ -111,7 +111,7 @@ module _ (c : Content) where
     settled : (o : Outcome) → Settles (placesIn c) (rootsIn c) (c .budget) o → (saying o .number ≡ 0) ↔ Valid c
     settled (accepted p r s) a =
         let some : 0 < length (c .bundle) = let (l, e) = a .simple .start in a .simple .inside 0 (rw e (here refl)) in
-        let (x, y) = to-root p r (a .simple) (a .reaches) in
+        let (x, y) = to-root p r (a .simple) (a .qualifies) in
         (λ _. (some, (p, r, x, y)), λ _. refl)
     settled (refused s) a =
         (λ e. absurd (omega arith), λ v. let (p, r, x, y) = v .1 in absurd (a .none p (from-upstream p (x .simple)) (r, from-root p r x y)))

@@ -5,20 +5,20 @@ use Prim.Native.Nat.{ℕ}
 use Rattle.order.specs.Paths.{Places, Simple}
 use Rattle.steps.specs.declared.Answer.{Answer}
 use Rattle.steps.specs.Answer.{Tells, Paused, Searched}
-use Rattle.steps.specs.Settles.{Roots, Reaches, Qualifies, Outcome, accepted, refused, exhausted, Settles}
+use Rattle.steps.specs.Settles.{Roots, QualifiesBy, Qualifies, Outcome, accepted, refused, exhausted, Settles}
 
 module _ {g : Places} {w v : Roots}
-    (to : (p : List ℕ) (r : ℕ) → Simple g p → Reaches w p r → Reaches v p r)
-    (from : (p : List ℕ) (r : ℕ) → Simple g p → Reaches v p r → Reaches w p r)
+    (to : (p : List ℕ) (r : ℕ) → Simple g p → QualifiesBy w p r → QualifiesBy v p r)
+    (from : (p : List ℕ) (r : ℕ) → Simple g p → QualifiesBy v p r → QualifiesBy w p r)
   where
     qualifies-from : (q : List ℕ) → Simple g q → Qualifies v q → Qualifies w q
     qualifies-from q s x = (x .0, from q (x .0) s (x .1))
 
-    pub settles-agree : (k : ℕ) (o : Outcome) → Settles g w k o → Settles g v k o
+    settles-agree : (k : ℕ) (o : Outcome) → Settles g w k o → Settles g v k o
     settles-agree k (accepted p r s) a =
         record {
           simple = a .simple;
-          reaches = to p r (a .simple) (a .reaches);
+          qualifies = to p r (a .simple) (a .qualifies);
           lowest = λ i x. a .lowest i (from p i (a .simple) x);
           first = λ q y b x. a .first q y b (qualifies-from q y x);
           rank = a .rank;
@@ -30,7 +30,7 @@ module _ {g : Places} {w v : Roots}
         record { spent = a .spent; more = a .more; none = λ q i y n h x. a .none q i y n h (qualifies-from q y x) }
 
     module _ {k : ℕ} {a : Answer} where
-      pub tells-agree : {o : Outcome} → Tells g w k a o → Tells g v k a o
+      tells-agree : {o : Outcome} → Tells g w k a o → Tells g v k a o
       tells-agree {o} x = record { settled = settles-agree k o (x .settled); says = x .says; shows = x .shows }
 
       pub paused-agree : {before after : List ℕ} → Paused g w k before after a → Paused g v k before after a

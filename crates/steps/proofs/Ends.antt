@@ -17,13 +17,13 @@ use Rattle.certificates.specs.declared.places.RootPlace.{RootPlace}
 use Rattle.rows.proofs.Places.{Least}
 use Rattle.steps.specs.declared.Answer.{Answer}
 use Rattle.steps.specs.Answer.{pathShown, shown, Paused}
-use Rattle.steps.specs.Parts.{Stopped}
+use Rattle.steps.specs.Parts.{pathOf, Stopped}
 use Rattle.steps.specs.Settles.{Roots, Qualifies, Accepted, accepted, refused, exhausted}
-use Rattle.steps.specs.Slots.{slotOf, flat, pathOf}
+use Rattle.steps.specs.Slots.{slotOf, flat}
 use Rattle.order.proofs.Bound.{after-fits}
 use Rattle.steps.proofs.Stack.{path-slot}
 use Rattle.steps.proofs.Turn.{Lies, Given, Going, Taken}
-use Rattle.steps.proofs.Verdict.{barren-more, accepts, refuses, exhausts}
+use Rattle.steps.proofs.Settled.{barren-more, accepts, refuses, exhausts}
 
 -- what is written below w slots leaves the rest
 pub start-rest : (w : ℕ) (room s : List ℕ) → 1 ≤ w → 17 * w ≤ length room → length s ≡ 17 → (take 17 (paste room 0 s 17) ≡ s) × (drop (17 * w) (paste room 0 s 17) ≡ drop (17 * w) room)

@@ -38,10 +38,6 @@ five : (o : Outcome) → Settles three none 5 o → o ≡ refused 5
 unfolding read seek flatMap next kids walk visit
 five o s = only none 5 o s
 
-four : (o : Outcome) → Settles three none 4 o → o ≡ exhausted 4
-unfolding read seek flatMap next kids walk visit
-four o s = only none 4 o s
-
 -- the larger place first, its lowest root, its rank
 first : (o : Outcome) → Settles three two 9 o → o ≡ accepted (0 ∷ 2 ∷ []) 1 2
 unfolding read seek flatMap next kids walk visit

@@ -17,7 +17,7 @@ use Rattle.rows.specs.Rows.{seek}
 use Rattle.rows.proofs.Places.{seek-least}
 use Rattle.steps.specs.Settles.{Roots, Qualifies, Outcome, accepted, refused, exhausted, Settles}
 use Rattle.steps.proofs.Least.{least-none}
-use Rattle.steps.proofs.Verdict.{Barren, barren-more, accepts, refuses, exhausts}
+use Rattle.steps.proofs.Settled.{Barren, barren-more, accepts, refuses, exhausts}
 
 -- the paths are what is left after k, with `fuel` steps left
 unfoldable pub read : Roots → List (List ℕ) → ℕ → ℕ → Outcome

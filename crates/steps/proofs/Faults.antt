@@ -8,7 +8,7 @@ use borrow.Author.Tests.{leb-true, lt-ltb, le-ltb, le-leb, lt-leb}
 use lib.Dec.{leb}
 use Rattle.order.specs.Slots.{slotsOf}
 use Rattle.steps.specs.declared.Answer.{Answer}
-use Rattle.steps.specs.Answer.{tells, told, pathShown, fault, Answered}
+use Rattle.steps.specs.Answer.{telling, told, pathShown, fault, Answered}
 use Rattle.steps.specs.Room.{hasRoom}
 
 -- nothing stands in the way
@@ -51,5 +51,5 @@ module _ {P : Type 0} {before after : List ℕ} {a : Answer} {e : ℕ} where
   pub answered-runs : e ≡ 0 → P → Answered P e before after a
   answered-runs z p = record { runs = λ q. p; stops = λ h. absurd (omega arith) }
 
-  pub answered-stops : 0 < e → told (a .reply) ≡ tells e 0 0 → a .path ≡ pathShown [] → after ≡ before → Answered P e before after a
+  pub answered-stops : 0 < e → told (a .reply) ≡ telling e 0 0 → a .path ≡ pathShown [] → after ≡ before → Answered P e before after a
   answered-stops h x y z = record { runs = λ q. absurd (omega arith); stops = λ k. record { says = x; shows = y; kept = z } }

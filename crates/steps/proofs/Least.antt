@@ -14,10 +14,10 @@ use Rattle.policy.specs.declared.path.Top.the-variants as top
 use Rattle.rows.specs.Rows.{has, seek}
 use Rattle.rows.proofs.Places.{Least, seek-least}
 use Rattle.steps.specs.Answer.{qualifiesBy, rootsBy}
-use Rattle.steps.specs.Settles.{Roots, Reaches, Qualifies}
+use Rattle.steps.specs.Settles.{Roots, QualifiesBy, Qualifies}
 
 module _ (w : Roots) {p : List ℕ} {r : ℕ} (l : Least (w .good p) 0 (w .count) r) where
-  pub least-lowest : (i : ℕ) → Reaches w p i → r ≤ i
+  pub least-lowest : (i : ℕ) → QualifiesBy w p i → r ≤ i
   least-lowest i (h, e) = let k : ¬ (i < r) = λ k. false≢true (sym (l .below i (omega arith) k) ∙ e) in omega arith
 
   pub least-none : w .count ≤ r → ¬ Qualifies w p

@@ -9,9 +9,9 @@ pub mod Least
 pub mod Lists
 pub mod Marks
 pub mod Paths
+pub mod Settled
 pub mod Shown
 pub mod Stack
 pub mod Total
 pub mod Turn
 pub mod Unique
-pub mod Verdict

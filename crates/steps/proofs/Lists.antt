@@ -31,7 +31,7 @@ set-append-add [] ys n a = ap (λ (k : ℕ). set ys k a) (zero-add n)
 set-append-add (x ∷ xs) ys n a = ap (λ (k : ℕ). set (x ∷ (xs ++ ys)) k a) (suc-add (length xs) n) ∙ ap (λ (l : List ℕ). x ∷ l) (set-append-add xs ys n a)
 
 -- a store into what was pasted whole
-pub paste-set : (d : List ℕ) (at : ℕ) (k : List ℕ) (n j a : ℕ) → at + n ≤ length d → length k ≡ n → j < n → set (paste d at k n) (at + j) a ≡ paste d at (set k j a) n
+paste-set : (d : List ℕ) (at : ℕ) (k : List ℕ) (n j a : ℕ) → at + n ≤ length d → length k ≡ n → j < n → set (paste d at k n) (at + j) a ≡ paste d at (set k j a) n
 paste-set d at k n j a h l b =
     let f : length (take at d) ≡ at = length-take-le at d (omega arith) in
     let t : take n k ≡ k = take-all n k (omega arith) in

@@ -1,4 +1,4 @@
--- Issuing that mark a path's places, and those by which it goes on. Assumes nothing.
+-- Rows that mark a path's places, and those by which it goes on. Assumes nothing.
 use mathlib.Core.Path.{_≡_, ap, _∙_, refl}
 use mathlib.Core.Bool.{Bool, true, false, not, _&&_}
 use mathlib.Core.List.{List, [], _∷_, _++_}

@@ -7,7 +7,7 @@ use native.Mathlib.Omega.{arith}
 use lib.ListN.{length, drop, getD, length-drop}
 use lib.Seq.{getD-drop, getD-take, length-take-le}
 use lib.Dec.{eqb}
-use Rattle.steps.specs.Slots.{pathOf, HoldsPath}
+use Rattle.steps.specs.Parts.{pathOf, HoldsPath}
 use Rattle.order.specs.Walk.{used, last}
 
 or-assoc : (a b c : Bool) → _||_ a (_||_ b c) ≡ _||_ (_||_ a b) c
@@ -22,7 +22,7 @@ pub used-snoc : (i : ℕ) (p : List ℕ) (x : ℕ) → used i (p ++ (x ∷ [])) 
 used-snoc i [] x = or-false (eqb i x)
 used-snoc i (y ∷ p) x = rw (used-snoc i p x) (or-assoc (eqb i y) (used i p) (eqb i x))
 
-pub last-at : (p : List ℕ) → last 0 p ≡ getD p (length p - 1) 0
+last-at : (p : List ℕ) → last 0 p ≡ getD p (length p - 1) 0
 last-at [] = refl
 last-at (x ∷ p) = let n : suc (length p) - 1 ≡ length p = omega arith in rw n (go x p)
   where
@@ -31,11 +31,11 @@ last-at (x ∷ p) = let n : suc (length p) - 1 ≡ length p = omega arith in rw 
     go x (y ∷ p) = go y p
 
 module _ (s : List ℕ) (l : length s ≡ 17) (S : HoldsPath s) where
-  pub path-length : length (pathOf s) ≡ getD s 0 0
+  path-length : length (pathOf s) ≡ getD s 0 0
   unfolding pathOf
   path-length = length-take-le (getD s 0 0) (drop 1 s) (simp length-drop (omega (arith, S .most)))
 
-  pub path-at : (j : ℕ) → j < getD s 0 0 → getD (pathOf s) j 0 ≡ getD s (j + 1) 0
+  path-at : (j : ℕ) → j < getD s 0 0 → getD (pathOf s) j 0 ≡ getD s (j + 1) 0
   unfolding pathOf
   path-at j h = getD-take (getD s 0 0) (drop 1 s) j 0 h ∙ getD-drop 1 s j 0 ∙ ap (λ (n : ℕ). getD s n 0) (omega arith)
 

@@ -9,7 +9,8 @@ use lib.ListN.{length, take, drop, getD, set, length-drop}
 use lib.Seq.{getD-drop, take-all}
 use Rattle.certificates.specs.declared.places.BundlePlace.{BundlePlace}
 use Rattle.steps.specs.Answer.{placed, pathShown}
-use Rattle.steps.specs.Slots.{padded, slotOf, pathOf}
+use Rattle.steps.specs.Parts.{pathOf}
+use Rattle.steps.specs.Slots.{padded, slotOf}
 use Rattle.steps.proofs.Stack.{slot-len}
 
 place-suc : (src : List ℕ) (dst : List BundlePlace) (i : ℕ) → i < length src → i < length dst

@@ -10,7 +10,8 @@ use Rattle.order.specs.Listing.{_among_}
 use Rattle.order.specs.Paths.{Places, Simple}
 use Rattle.order.proofs.Lists.{mem-at}
 use Rattle.order.proofs.Simple.{simple-length}
-use Rattle.steps.specs.Slots.{padded, slotOf, flat, pathOf, HoldsPath}
+use Rattle.steps.specs.Parts.{pathOf, HoldsPath}
+use Rattle.steps.specs.Slots.{padded, slotOf, flat}
 
 -- ---- slots
 
@@ -29,7 +30,7 @@ path-slot p = take-append-seam p (replicate (16 - length p) 0)
 pub slot-whole : (s p : List ℕ) → s ≡ slotOf p → s ≡ slotOf (pathOf s)
 slot-whole s p e = e ∙ ap slotOf (sym (ap pathOf e ∙ path-slot p))
 
-pub slot-child : (p : List ℕ) (i : ℕ) → length p < 16 → set (set (slotOf p) (length p + 1) i) 0 (length p + 1) ≡ slotOf (p ++ (i ∷ []))
+slot-child : (p : List ℕ) (i : ℕ) → length p < 16 → set (set (slotOf p) (length p + 1) i) 0 (length p + 1) ≡ slotOf (p ++ (i ∷ []))
 unfolding slotOf padded
 slot-child p i h =
     let e : 16 - length p ≡ suc (16 - (length p + 1)) = omega arith in

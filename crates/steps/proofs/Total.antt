@@ -14,7 +14,7 @@ use Rattle.order.proofs.Waiting.{after-exists}
 use Rattle.steps.specs.declared.Answer.{Answer}
 use Rattle.steps.specs.declared.Reply.{Reply}
 use Rattle.steps.specs.declared.Reply.the-variants as reply
-use Rattle.steps.specs.Answer.{told, tells, saying, shown, pathShown, Tells, Paused, Searched, Stops, Answered, fault}
+use Rattle.steps.specs.Answer.{told, telling, saying, shown, pathShown, Tells, Paused, Searched, Stops, Answered, fault}
 use Rattle.steps.specs.Room.{hasRoom, holding}
 use Rattle.steps.specs.Settles.{Roots, Outcome, accepted, refused, exhausted, steps}
 use Rattle.steps.proofs.Exists.{found, settles}
@@ -46,7 +46,7 @@ answerOf o = record { reply = replyOf o; path = pathShown (shown o) }
 abbrev pub without : Reply → Answer
 without r = record { reply = r; path = pathShown [] }
 
-pub stops-some : (e : ℕ) (r : Reply) (before : List ℕ) → told r ≡ tells e 0 0 → Some (λ after a. Stops e before after a)
+pub stops-some : (e : ℕ) (r : Reply) (before : List ℕ) → told r ≡ telling e 0 0 → Some (λ after a. Stops e before after a)
 stops-some e r before h = record { after = before; answer = without r; is = record { says = h; shows = refl; kept = refl } }
 
 module _ (g : Places) (w : Roots) (k : ℕ) (before : List ℕ) where
@@ -86,7 +86,7 @@ module _ (g : Places) (w : Roots) (k : ℕ) (before : List ℕ) where
       goal : Type 0
       goal = Some (λ after a. Answered (P after a) (fault n (length before)) before after a)
 
-      stopped : (r : Reply) → 0 < fault n (length before) → told r ≡ tells (fault n (length before)) 0 0 → goal
+      stopped : (r : Reply) → 0 < fault n (length before) → told r ≡ telling (fault n (length before)) 0 0 → goal
       stopped r h t = record { after = before; answer = without r; is = answered-stops h t refl refl }
 
       by-size : (x : Bool) → ltb 0 n ≡ x → (y : Bool) → hasRoom n (length before) ≡ y → goal

@@ -15,13 +15,13 @@ use Rattle.order.proofs.Bound.{after-fits}
 use Rattle.order.proofs.Simple.{simple-length}
 use Rattle.order.proofs.Waiting.{waiting-step}
 use Rattle.order.proofs.Tree.{paths-listing}
-use Rattle.steps.specs.Parts.{grown}
+use Rattle.steps.specs.Parts.{pathOf, grown}
 use Rattle.steps.specs.Settles.{Roots}
-use Rattle.steps.specs.Slots.{slotOf, flat, pathOf}
+use Rattle.steps.specs.Slots.{slotOf, flat}
 use Rattle.steps.proofs.Cleared.{after-simple}
 use Rattle.steps.proofs.Grow.{grown-kids, grown-flat}
 use Rattle.steps.proofs.Stack.{path-slot, length-flat, flat-append, laidOut}
-use Rattle.steps.proofs.Verdict.{Barren}
+use Rattle.steps.proofs.Settled.{Barren}
 
 -- st lies in the first m slots of the room, which past w slots is as it was at the start
 pub record Lies (w : ℕ) (start room : List ℕ) (m : ℕ) (st : List (List ℕ)) : Type 0 where

@@ -31,10 +31,10 @@ module _ (g : Places) where
     accepted-unique : {p q : List ℕ} {r i s t : ℕ} → Accepted g w k p r s → Accepted g w k q i t → accepted p r s ≡ accepted q i t
     accepted-unique {p} {q} {r} {i} {s} {t} a b =
         let e : p ≡ q = ⊎-elim (λ e. e)
-        (⊎-elim (λ f. absurd (b .first p (a .simple) f (r, a .reaches))) (λ f. absurd (a .first q (b .simple) f (i, b .reaches))))
+        (⊎-elim (λ f. absurd (b .first p (a .simple) f (r, a .qualifies))) (λ f. absurd (a .first q (b .simple) f (i, b .qualifies))))
         (same-or-before p q) in
         let a′ : Accepted g w k q r s = rw e at a in
-        let f : r ≡ i = le-antisymm (a′ .lowest i (b .reaches)) (b .lowest r (a′ .reaches)) in
+        let f : r ≡ i = le-antisymm (a′ .lowest i (b .qualifies)) (b .lowest r (a′ .qualifies)) in
         let h : s ≡ t = rank-unique g q (a′ .rank) (b .rank) in
         rw (e, f, h)
 
@@ -44,12 +44,12 @@ module _ (g : Places) where
 
     pub settles-unique : (o u : Outcome) → Settles g w k o → Settles g w k u → o ≡ u
     settles-unique (accepted p r s) (accepted q i t) a b = accepted-unique a b
-    settles-unique (accepted p r s) (refused t) a b = absurd (b .none p (a .simple) (r, a .reaches))
-    settles-unique (accepted p r s) (exhausted t) a b = absurd (b .none p s (a .simple) (a .rank) (a .covered) (r, a .reaches))
-    settles-unique (refused s) (accepted q i t) a b = absurd (a .none q (b .simple) (i, b .reaches))
+    settles-unique (accepted p r s) (refused t) a b = absurd (b .none p (a .simple) (r, a .qualifies))
+    settles-unique (accepted p r s) (exhausted t) a b = absurd (b .none p s (a .simple) (a .rank) (a .covered) (r, a .qualifies))
+    settles-unique (refused s) (accepted q i t) a b = absurd (a .none q (b .simple) (i, b .qualifies))
     settles-unique (refused s) (refused t) a b = ap refused (count-unique g (a .all) (b .all))
     settles-unique (refused s) (exhausted t) a b = absurd (covers (a .all) (a .covered) t b)
-    settles-unique (exhausted s) (accepted q i t) a b = absurd (a .none q t (b .simple) (b .rank) (b .covered) (i, b .reaches))
+    settles-unique (exhausted s) (accepted q i t) a b = absurd (a .none q t (b .simple) (b .rank) (b .covered) (i, b .qualifies))
     settles-unique (exhausted s) (refused t) a b = absurd (covers (b .all) (b .covered) s a)
     settles-unique (exhausted s) (exhausted t) a b = ap exhausted (a .spent ∙ sym (b .spent))
 

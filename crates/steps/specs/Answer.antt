@@ -54,22 +54,22 @@ pub record Told : Type 0 where
   pub root : ℕ
   pub steps : ℕ
 
-abbrev pub tells : ℕ → ℕ → ℕ → Told
-tells n r s = record { number = n; root = r; steps = s }
+abbrev pub telling : ℕ → ℕ → ℕ → Told
+telling n r s = record { number = n; root = r; steps = s }
 
 abbrev pub told : Reply → Told
-told (reply.Accepted r s) = tells 0 (r .0) s
-told (reply.Refused s) = tells 1 0 s
-told (reply.Exhausted s) = tells 2 0 s
-told reply.EmptyChain = tells 3 0 0
-told (reply.Unread f) = tells (number f) 0 0
-told reply.NoRoom = tells 10 0 0
+told (reply.Accepted r s) = telling 0 (r .0) s
+told (reply.Refused s) = telling 1 0 s
+told (reply.Exhausted s) = telling 2 0 s
+told reply.EmptyChain = telling 3 0 0
+told (reply.Unread f) = telling (number f) 0 0
+told reply.NoRoom = telling 10 0 0
 
 -- what an outcome's reply must say, and the path beside it
 abbrev pub saying : Outcome → Told
-saying (accepted p r s) = tells 0 r s
-saying (refused s) = tells 1 0 s
-saying (exhausted s) = tells 2 0 s
+saying (accepted p r s) = telling 0 r s
+saying (refused s) = telling 1 0 s
+saying (exhausted s) = telling 2 0 s
 
 abbrev pub shown : Outcome → List ℕ
 shown (accepted p r s) = p
@@ -108,7 +108,7 @@ fault n bytes = cond (ltb 0 n) (cond (hasRoom n bytes) 0 10) 3
 
 -- there is no search: the reply is the number e, and nothing is written
 pub record Stops (e : ℕ) (before after : List ℕ) (a : Answer) : Type 0 where
-  pub says : told (a .reply) ≡ tells e 0 0
+  pub says : told (a .reply) ≡ telling e 0 0
   pub shows : a .path ≡ pathShown []
   pub kept : after ≡ before
 

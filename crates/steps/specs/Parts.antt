@@ -2,8 +2,8 @@
 use mathlib.Core.Bool.{Bool, not, _&&_}
 use mathlib.Core.List.{List, map}
 use mathlib.Core.Path.{_≡_}
-use Prim.Native.Nat.{ℕ, _*_, _≤_}
-use lib.ListN.{length, take, drop}
+use Prim.Native.Nat.{ℕ, _+_, _*_, _≤_, _<_}
+use lib.ListN.{length, getD, take, drop}
 use Rattle.order.specs.Paths.{Places}
 use Rattle.order.specs.Waiting.{After}
 use Rattle.order.specs.Walk.{keep, down, used, last, snoc}
@@ -11,6 +11,16 @@ use Rattle.steps.specs.declared.Reply.{Reply}
 use Rattle.steps.specs.Answer.{told, saying, shown}
 use Rattle.steps.specs.Settles.{Roots, Outcome, Settles, steps}
 use Rattle.steps.specs.Slots.{slotOf, flat}
+
+-- the path that a slot holds
+unfoldable pub pathOf : List ℕ → List ℕ
+pathOf s = take (getD s 0 0) (drop 1 s)
+
+-- s holds a path of 1 to 16 places, each below 16
+pub record HoldsPath (s : List ℕ) : Type 0 where
+  pub some : 1 ≤ getD s 0 0
+  pub most : getD s 0 0 ≤ 16
+  pub low : (j : ℕ) → j < getD s 0 0 → getD s (j + 1) 0 < 16
 
 -- p can go on by place i
 abbrev pub goes : (ℕ → ℕ → Bool) → List ℕ → ℕ → Bool

@@ -11,17 +11,17 @@ pub record Roots : Type 0 where
   pub count : ℕ
   pub good : List ℕ → ℕ → Bool
 
-abbrev pub Reaches : Roots → List ℕ → ℕ → Type 0
-Reaches w p r = (r < w .count) × (w .good p r ≡ true)
+abbrev pub QualifiesBy : Roots → List ℕ → ℕ → Type 0
+QualifiesBy w p r = (r < w .count) × (w .good p r ≡ true)
 
 abbrev pub Qualifies : Roots → List ℕ → Type 0
-Qualifies w p = (r : ℕ) × Reaches w p r
+Qualifies w p = (r : ℕ) × QualifiesBy w p r
 
 -- p is the first path that qualifies, r its lowest root, and s its rank, which the budget k covers
 pub record Accepted (g : Places) (w : Roots) (k : ℕ) (p : List ℕ) (r s : ℕ) : Type 0 where
   pub simple : Simple g p
-  pub reaches : Reaches w p r
-  pub lowest : (i : ℕ) → Reaches w p i → r ≤ i
+  pub qualifies : QualifiesBy w p r
+  pub lowest : (i : ℕ) → QualifiesBy w p i → r ≤ i
   pub first : (q : List ℕ) → Simple g q → Before q p → ¬ Qualifies w q
   pub rank : Rank g p s
   pub covered : s ≤ k

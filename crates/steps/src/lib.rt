@@ -4,7 +4,6 @@ mod room;
 mod run;
 mod step;
 
-use crate::room::Slot;
 use crate::room::zero_bytes;
 use crate::run::run;
 use card::Bundle;
@@ -14,6 +13,7 @@ use fields::Fault;
 use issuing::Issuing;
 use order::slots;
 use policy::Judged;
+pub use room::Slot;
 ghost use mathlib.Core.List.{[]};
 ghost use mathlib.Core.Path.{_≡_};
 ghost use lib.ListN.{length};

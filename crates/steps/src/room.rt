@@ -8,13 +8,14 @@ ghost use Prim.Native.Nat.{_+_, _-_, _*_, _≤_};
 ghost use lib.ListN.{length, take, drop, replicate};
 ghost use lib.Seq.{paste};
 ghost use Rattle.steps.specs.Answer.{pathShown};
-ghost use Rattle.steps.specs.Slots.{slotOf, pathOf};
+ghost use Rattle.steps.specs.Parts.{pathOf};
+ghost use Rattle.steps.specs.Slots.{slotOf};
 
 // A slot: a length, then as many places as a path can have.
-pub(crate) struct Slot {}
+pub struct Slot {}
 
 impl Slot {
-    pub const BYTES: usize = 17;
+    pub const BYTES: usize = Bundle::MOST + 1;
 }
 
 // The bytes of slot t.

@@ -1,7 +1,7 @@
 // The run: step after step until a path reaches a root, none waits, or the budget is spent.
 use crate::Answer;
 use crate::Reply;
-use crate::room::Slot;
+use crate::Slot;
 use crate::room::path_in;
 use crate::room::read_slot;
 use crate::room::write_slot;

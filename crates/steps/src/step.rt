@@ -1,5 +1,5 @@
 // One step: the places by which a path goes on, its children laid in the room, and its root.
-use crate::room::Slot;
+use crate::Slot;
 use crate::room::write_slot;
 use card::Bundle;
 use card::Roots;
@@ -17,8 +17,8 @@ ghost use Rattle.order.specs.Paths.{Simple};
 ghost use Rattle.policy.specs.Judging.{judgedRoot, topOf};
 ghost use Rattle.rows.specs.Rows.{has};
 ghost use Rattle.steps.specs.Answer.{issuers, placesBy};
-ghost use Rattle.steps.specs.Parts.{goes, grown};
-ghost use Rattle.steps.specs.Slots.{slotOf, flat, pathOf, HoldsPath};
+ghost use Rattle.steps.specs.Parts.{pathOf, HoldsPath, goes, grown};
+ghost use Rattle.steps.specs.Slots.{slotOf, flat};
 
 // The places by which s's path goes on, as a row.
 fn next_places(s: [u8; Slot::BYTES], rows: &[u64; Bundle::MOST]) -> u64

@@ -14,7 +14,7 @@ ghost use Prim.Native.Nat.{_≤_};
 const MOST: usize = 2048;
 
 // LABEL|QUESTION|ROOM|CARD; a field that is missing is empty.
-pub fn answer(line: &[u8]) {
+pub(crate) fn answer(line: &[u8]) {
     let label = end_at(line, 0, b'|');
     let second = behind(line, label);
     let question = end_at(line, second, b'|');

@@ -7,8 +7,24 @@ pub(crate) fn end_at(s: &[u8], from: usize, b: u8) -> usize
     requires { ⌜ from ≤ length (now s) ⌝ }
     ensures { λ r. ⌜ (from ≤ r) × (r ≤ length (now (s .entry))) ⌝ }
 {
+    end_where(s, from, b, true)
+}
+
+// Where the bytes b from a place on end.
+pub(crate) fn run_end(s: &[u8], from: usize, b: u8) -> usize
+    requires { ⌜ from ≤ length (now s) ⌝ }
+    ensures { λ r. ⌜ (from ≤ r) × (r ≤ length (now (s .entry))) ⌝ }
+{
+    end_where(s, from, b, false)
+}
+
+// The first place, from a place on, whose byte is b (`is`) or is not; the end where there is none.
+fn end_where(s: &[u8], from: usize, b: u8, is: bool) -> usize
+    requires { ⌜ from ≤ length (now s) ⌝ }
+    ensures { λ r. ⌜ (from ≤ r) × (r ≤ length (now (s .entry))) ⌝ }
+{
     let mut i = from;
-    while i < s.len() && s[i] != b {
+    while i < s.len() && (s[i] == b) != is {
         i += 1;
     }
     i

@@ -1,16 +1,14 @@
 // What is written of a case: its label, the terminal's line, and the room as slots.
 use crate::lines::end_at;
-use card::Bundle;
+use crate::lines::run_end;
 use libc::STDOUT_FILENO;
 use report::line_of;
 use steps::Answer;
+use steps::Slot;
 ghost use Prim.Native.Nat.{_≤_};
 ghost use lib.ListN.{length};
 
-// The bytes of a slot: a length, then as many places as a path can have.
-const SLOT: usize = Bundle::MOST + 1;
-
-pub fn answer(label: &[u8], answer: Answer, room: &[u8]) {
+pub(crate) fn answer(label: &[u8], answer: Answer, room: &[u8]) {
     put(label);
     put(b": ");
     reply(answer);
@@ -50,30 +48,30 @@ fn paths(s: &[u8]) -> usize
     ensures { λ r. ⌜ r ≤ length (now (s .entry)) ⌝ }
 {
     let mut at: usize = 0;
-    while SLOT <= s.len() - at {
-        let slot = &s[at..at + SLOT];
+    while Slot::BYTES <= s.len() - at {
+        let slot = &s[at..at + Slot::BYTES];
         if !is_path(slot) {
             break;
         }
         path(slot);
-        at += SLOT;
+        at += Slot::BYTES;
     }
     at
 }
 
 // Whether a slot holds a path: a length of 1 to 16, and zeros past so many places.
 fn is_path(slot: &[u8]) -> bool {
-    if slot.len() != SLOT {
+    if slot.len() != Slot::BYTES {
         return false;
     }
     let end = wide(slot[0]) + 1;
     if end < 2 {
         return false;
     }
-    if SLOT < end {
+    if Slot::BYTES < end {
         return false;
     }
-    run_end(slot, end, 0) == SLOT
+    run_end(slot, end, 0) == Slot::BYTES
 }
 
 // Writes the path in a slot.
@@ -93,18 +91,6 @@ fn place(i: usize, place: usize) {
         return;
     }
     count(b",", place as u64);
-}
-
-// Where the bytes b from a place on end.
-fn run_end(s: &[u8], from: usize, b: u8) -> usize
-    requires { ⌜ from ≤ length (now s) ⌝ }
-    ensures { λ r. ⌜ (from ≤ r) × (r ≤ length (now (s .entry))) ⌝ }
-{
-    let mut i = from;
-    while i < s.len() && s[i] == b {
-        i += 1;
-    }
-    i
 }
 
 fn wide(x: u8) -> usize

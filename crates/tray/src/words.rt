@@ -5,7 +5,7 @@ ghost use Prim.Native.Nat.{_≤_};
 ghost use lib.ListN.{length};
 
 // The bytes of a card, written to out: those that find no room are left out.
-pub fn card<'a>(text: &[u8], out: &'a mut [u8]) -> &'a [u8] {
+pub(crate) fn card<'a>(text: &[u8], out: &'a mut [u8]) -> &'a [u8] {
     let mut at: usize = 0;
     let mut n: usize = 0;
     while at < text.len() {
@@ -69,8 +69,8 @@ fn digit(b: u8) -> u8
     }
 }
 
-// The number that decimal digits stand for; digits behind one over 9,999 are not read.
-pub fn number(s: &[u8]) -> usize {
+// The number that digits stand for by tens, A to F as 10 to 15 there too; digits behind one over 9,999 are not read.
+pub(crate) fn number(s: &[u8]) -> usize {
     let mut n: usize = 0;
     let mut i: usize = 0;
     while i < s.len() && n < 10000 {

@@ -9,7 +9,8 @@ use lib.ListN.{length, take, drop}
 use Rattle.order.specs.Walk.{kids}
 use Rattle.order.proofs.Formula.{slots-some}
 use Rattle.steps.specs.Answer.{placesBy, rootsBy}
-use Rattle.steps.specs.Slots.{padded, slotOf, pathOf}
+use Rattle.steps.specs.Parts.{pathOf}
+use Rattle.steps.specs.Slots.{padded, slotOf}
 use Rattle.steps.proofs.Ends.{start-rest, going-start, restart, going-top, going-exhausted, going-refused, going-accepted, going-on}
 use Rattle.steps.proofs.Least.{judged-found, judged-none}
 use Rattle.steps.proofs.Stack.{simple-slot}

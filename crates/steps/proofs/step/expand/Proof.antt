@@ -5,7 +5,7 @@ use borrow.Author.Needs.{needs}
 use native.Mathlib.Omega.{arith}
 use lib.ListN.{length}
 use Rattle.rows.specs.Rows.{joined, left}
-use Rattle.steps.specs.Slots.{pathOf}
+use Rattle.steps.specs.Parts.{pathOf}
 use Rattle.steps.specs.Answer.{issuers, placesBy}
 use Rattle.steps.proofs.Grow.{Laying, Child, laying-start, laying-end, child}
 use Rattle.steps.proofs.Stack.{slot-len, simple-slot, slot-next}

@@ -7,7 +7,7 @@ use lib.ListN.{length, take, drop, getD, length-drop}
 use Rattle.order.specs.Walk.{used}
 use Rattle.rows.specs.Rows.{has}
 use Rattle.rows.proofs.Places.{has-none}
-use Rattle.steps.specs.Slots.{pathOf}
+use Rattle.steps.specs.Parts.{pathOf}
 use Rattle.steps.proofs.Marks.{used-more, goes-left}
 use Rattle.steps.proofs.Paths.{path-last, last-low}
 use Rattle.steps.proofs.step.next_places.Statement.{statement}

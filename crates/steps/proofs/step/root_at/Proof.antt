@@ -4,7 +4,7 @@ use mathlib.Core.Path.{_≡_}
 use native.Mathlib.Omega.{arith}
 use Prim.Native.Nat.{_+_, _-_}
 use lib.ListN.{getD}
-use Rattle.steps.specs.Slots.{pathOf}
+use Rattle.steps.specs.Parts.{pathOf}
 use Rattle.steps.proofs.step.root_at.Statement.{statement}
 use Rattle.steps.proofs.step.root_at.Tie as tie
 

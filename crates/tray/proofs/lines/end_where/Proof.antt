@@ -1,15 +1,15 @@
--- `tray::show::run_end` meets its contract. The loop's invariant: `i` is not before `from`, and at most the length. Assumes nothing.
+-- `tray::lines::end_where` meets its contract. The loop's invariant: `i` is not before `from`, and at most the length. Assumes nothing.
 use borrow.Author.Needs.{needs}
 use Prim.Native.Nat.{_≤_, _-_}
 use lib.ListN.{length}
-use Rattle.tray.proofs.show.run_end.Statement.{statement}
-use Rattle.tray.proofs.show.run_end.Tie as tie
+use Rattle.tray.proofs.lines.end_where.Statement.{statement}
+use Rattle.tray.proofs.lines.end_where.Tie as tie
 
 abbrev Inv-loop : tie.InvT-loop
-Inv-loop s from b i₀ i = (from ≤ i) × (i ≤ length s)
+Inv-loop s from b is i₀ i = (from ≤ i) × (i ≤ length s)
 
 abbrev μ-loop : tie.MeasureT-loop
-μ-loop s from b i₀ i = length s - i
+μ-loop s from b is i₀ i = length s - i
 
 loop-holds : tie.Need-loop-holds Inv-loop μ-loop
 loop-holds c = search needs
@@ -32,8 +32,8 @@ returns c = search needs
 returns-2 : tie.Need-returns-2 Inv-loop μ-loop
 returns-2 c = search needs
 
-pub run-end-spec : {M : Type 1} → statement M
-run-end-spec =
+pub end-where-spec : {M : Type 1} → statement M
+end-where-spec =
     tie.close
     (tie.spec
     Inv-loop

@@ -28,7 +28,7 @@ module _ (g : Places) (w : Roots) {ps : List (List ℕ)} (l : Listing g ps) wher
       → Accepted g w budget (getD ps k []) r (suc k)
   accepts budget k r h c b f t = record {
     simple = l .only (getD ps k []) (mem-at ps k [] h);
-    reaches = (t, f .passes (omega arith));
+    qualifies = (t, f .passes (omega arith));
     lowest = least-lowest w f;
     first = λ q s e. b q (lists-before irrefl trans (take k ps) (drop (suc k) ps) (rw (split-at ps k []) at l) .all q (s, e));
     rank = rank-at g l k h;
