@@ -14,7 +14,6 @@ use Rattle.order.specs.Listing.{_among_, Sorted, nil, cons}
 use Rattle.order.specs.Paths.{Linked, Simple, Count}
 use Rattle.policy.specs.Judging.{lastOf}
 use Rattle.policy.specs.Policy.{policy, chainOf}
-use Rattle.policy.specs.Qualifies.{reaches}
 use Rattle.steps.specs.declared.Answer.{Answer}
 use Rattle.steps.specs.Answer.{told, saying, Searched, fault}
 use Rattle.steps.specs.Settles.{QualifiesBy, Outcome, accepted, refused, exhausted, Settles}
