@@ -1,17 +1,25 @@
--- Simple paths: their beginnings, the places by which one goes on, and how long one can be. Assumes nothing.
+-- Simple paths: their last place, their beginnings, the places by which one goes on, and how long one can be. Assumes nothing.
 use mathlib.Core.Bool.{Bool, true, false, not, _&&_, _||_, and-eq-true-iff, false≢true}
 use mathlib.Core.List.{List, [], _∷_, _++_, cons≢nil, head-eq-of-cons-eq, List·Memᴰ·head as here, List·Memᴰ·tail as there, List·Memᴰ·not-nil, List·Memᴰ·cases-cons, Memᴰ·append-left, Memᴰ·append-right, List·Memᴰ·append-cases, List·Memᴰ·eq-of-singleton}
 use mathlib.Core.Logic.{_≢_, ⊎-elim}
 use mathlib.Core.Path.{_≡_, refl, sym, ap, _∙_}
-use Prim.Native.Nat.{ℕ, zero, suc, _+_, _≤_, _<_}
+use Prim.Native.Nat.{ℕ, zero, suc, _+_, _-_, _≤_, _<_}
 use native.Mathlib.Nat.{eq-or-lt-of-le, le-of-suc-le-suc, le-refl, lt-irrefl, not-suc-le-zero}
 use native.Mathlib.Omega.{arith}
 use lib.Dec.{T, eqb, eqb→eq, eqb-refl}
-use lib.ListN.{length, length-append}
+use lib.ListN.{length, getD, length-append}
 use Rattle.order.specs.Listing.{_among_, Sorted, nil, cons, Lists}
-use Rattle.order.specs.Paths.{Places, Linked, Simple}
-use Rattle.order.specs.Walk.{down, used, last, snoc, next}
+use Rattle.order.specs.Paths.{Places, Linked, Simple, last}
+use Rattle.order.specs.Walk.{down, used, snoc, next}
 use Rattle.order.proofs.Lists.{pigeon, sorted-one, sorted-append, sorted-split, sorted-imp, sorted-keep, keep-mem, mem-keep}
+
+-- ---- the last place
+
+pub last-at : (x : ℕ) (l : List ℕ) → last x l ≡ getD (x ∷ l) (length (x ∷ l) - 1) 0
+last-at x [] = refl
+last-at x (y ∷ l) =
+    let e : suc (length (y ∷ l) - 1) ≡ length (x ∷ y ∷ l) - 1 = omega arith in
+    last-at y l ∙ ap (λ (n : ℕ). getD (x ∷ y ∷ l) n 0) e
 
 -- ---- the tests
 

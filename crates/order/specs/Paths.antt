@@ -12,6 +12,11 @@ pub record Places : Type 0 where
   pub size : ℕ
   pub issued : ℕ → ℕ → Bool
 
+-- the last place of a path, d for the empty one
+abbrev pub last : ℕ → List ℕ → ℕ
+last d [] = d
+last d (x ∷ p) = last x p
+
 -- each next certificate issued the one before
 abbrev pub Linked : Places → List ℕ → Type 0
 Linked g [] = Unit {0}

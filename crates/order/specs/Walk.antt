@@ -5,7 +5,7 @@ use mathlib.Core.List.{List, [], _∷_, _++_, map, flatMap}
 use Prim.Native.Nat.{ℕ, zero, suc, _-_}
 use lib.Dec.{eqb}
 use lib.ListN.{length}
-use Rattle.order.specs.Paths.{Places}
+use Rattle.order.specs.Paths.{Places, last}
 
 abbrev pub put : {A : Type 0} → Bool → A → List A → List A
 put true x xs = x ∷ xs
@@ -25,11 +25,6 @@ down (suc n) = n ∷ down n
 abbrev pub used : ℕ → List ℕ → Bool
 used i [] = false
 used i (x ∷ p) = eqb i x || used i p
-
--- the last place of a path, d for the empty one
-abbrev pub last : ℕ → List ℕ → ℕ
-last d [] = d
-last d (x ∷ p) = last x p
 
 -- p and then place i
 abbrev pub snoc : List ℕ → ℕ → List ℕ

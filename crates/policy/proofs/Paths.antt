@@ -14,7 +14,9 @@ use lib.ListN.{length, getD, drop, drop-of-length-le}
 use lib.Seq.{drop-cons}
 use Rattle.rows.specs.Rows.{has, seek}
 use Rattle.rows.proofs.Places.{has-none, seek-is}
-use Rattle.policy.specs.Judging.{lastOf, stands, allStand, lowestAbove, judgedRoot}
+use Rattle.order.specs.Paths.{last}
+use Rattle.order.proofs.Simple.{last-at}
+use Rattle.policy.specs.Judging.{stands, allStand, lowestAbove, judgedRoot}
 
 -- ---- each place after the first
 
@@ -113,10 +115,6 @@ above-none sound limits n = seek-none (tops 0 sound limits n) 32 (λ i. rw (has-
 
 -- ---- the path's root
 
-last-at : (p : ℕ) (l : List ℕ) → lastOf p l ≡ getD (p ∷ l) (length l) 0
-last-at p [] = refl
-last-at p (q ∷ l) = last-at q l
-
 module _ (issued : List ℕ) (between : ℕ) (limits : List ℕ) (above : ℕ) (tops : List ℕ) where
   abbrev root : List ℕ → ℕ
   root path = judgedRoot issued between limits above tops path
@@ -125,8 +123,8 @@ module _ (issued : List ℕ) (between : ℕ) (limits : List ℕ) (above : ℕ) (
   abbrev end : List ℕ → ℕ
   end path = getD path (length path - 1) 0
 
-  end-is : (p : ℕ) (l : List ℕ) → end (p ∷ l) ≡ lastOf p l
-  end-is p l = let k : length (p ∷ l) - 1 ≡ length l = omega arith in rw k (sym (last-at p l))
+  end-is : (p : ℕ) (l : List ℕ) → end (p ∷ l) ≡ last p l
+  end-is p l = sym (last-at p l)
 
   pub root-nowhere : (path : List ℕ) → length path ≡ 0 → root path ≡ 32
   root-nowhere [] h = refl
@@ -134,13 +132,13 @@ module _ (issued : List ℕ) (between : ℕ) (limits : List ℕ) (above : ℕ) (
 
   pub root-past : (path : List ℕ) → 16 ≤ end path → root path ≡ 32
   root-past [] h = refl
-  root-past (p ∷ l) h = let k : 16 ≤ lastOf p l = rw (sym (end-is p l)) h in rw (le-ltb (lastOf p l) 16 k)
+  root-past (p ∷ l) h = let k : 16 ≤ last p l = rw (sym (end-is p l)) h in rw (le-ltb (last p l) 16 k)
 
   pub root-unissued : (path : List ℕ) → getD issued (end path) 0 ≡ 0 → root path ≡ 32
   root-unissued [] e = refl
   root-unissued (p ∷ l) e =
-      let none : getD issued (lastOf p l) 0 ≡ 0 = rw (sym (end-is p l)) e in
-      rw (none, above-none above tops (length l)) (nowhere (ltb (lastOf p l) 16 && allStand between limits 0 l) 32)
+      let none : getD issued (last p l) 0 ≡ 0 = rw (sym (end-is p l)) e in
+      rw (none, above-none above tops (length l)) (nowhere (ltb (last p l) 16 && allStand between limits 0 l) 32)
     where
       nowhere : (b : Bool) (r : ℕ) → cond b r r ≡ r
       nowhere true r = refl
@@ -148,7 +146,7 @@ module _ (issued : List ℕ) (between : ℕ) (limits : List ℕ) (above : ℕ) (
 
   pub root-lacks : (path : List ℕ) → allStand between limits 0 (drop 1 path) ≡ false → root path ≡ 32
   root-lacks [] e = refl
-  root-lacks (p ∷ l) e = rw e (nowhere (ltb (lastOf p l) 16) (lowestAbove (getD issued (lastOf p l) 0) above tops (length l)))
+  root-lacks (p ∷ l) e = rw e (nowhere (ltb (last p l) 16) (lowestAbove (getD issued (last p l) 0) above tops (length l)))
     where
       nowhere : (b : Bool) (r : ℕ) → cond (b && false) r 32 ≡ 32
       nowhere true r = refl
@@ -159,5 +157,5 @@ module _ (issued : List ℕ) (between : ℕ) (limits : List ℕ) (above : ℕ) (
   root-stands [] some h e = absurd (some refl)
   root-stands (p ∷ l) some h e =
       let k : length (p ∷ l) - 1 ≡ length l = omega arith in
-      let h : lastOf p l < 16 = rw (sym (end-is p l)) h in
-      rw (end-is p l, k, lt-ltb (lastOf p l) 16 h, e)
+      let h : last p l < 16 = rw (sym (end-is p l)) h in
+      rw (end-is p l, k, lt-ltb (last p l) 16 h, e)

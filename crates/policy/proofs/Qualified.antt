@@ -23,7 +23,8 @@ use Rattle.issuing.proofs.Agrees.{and-no, no-issuer, root-row-agrees}
 use Rattle.rules.specs.Rules.{allows}
 use Rattle.policy.specs.Policy.{policy, chainOf}
 use Rattle.policy.specs.Sound.{topSound, soundPlaces, placeLimits, rootLimits, rootsAbove}
-use Rattle.policy.specs.Judging.{lastOf, stands, allStand, lowestAbove, judgedRoot}
+use Rattle.order.specs.Paths.{last}
+use Rattle.policy.specs.Judging.{stands, allStand, lowestAbove, judgedRoot}
 use Rattle.policy.specs.Qualifies.{qualifies}
 use Rattle.policy.proofs.Chains.{allBetween, leafSound, bySeat, policy-by-seat}
 use Rattle.policy.proofs.Paths.{seek-none}
@@ -42,7 +43,7 @@ two-orders true false t a = refl
 two-orders false true t a = refl
 two-orders false false t a = refl
 
-pub last-inside : (n p : ℕ) (l : List ℕ) → p < n → Inside n l → lastOf p l < n
+pub last-inside : (n p : ℕ) (l : List ℕ) → p < n → Inside n l → last p l < n
 last-inside n p [] h k = h
 last-inside n p (q ∷ l) h k = last-inside n q l (k .0) (k .1)
 
@@ -65,8 +66,8 @@ module _ (s : List ℕ) (c : Card) (e : ℕ) (t : CardRead s c e) where
       by-test false k = absurd (false≢true (sym (no-issuer content (root r) j k) ∙ h))
 
   module _ (l : List ℕ) (there : 0 < c .bundle .count) (inside : Inside (c .bundle .count) l) (few : length l ≤ 255) where
-    abbrev last : ℕ
-    last = lastOf 0 l
+    abbrev end : ℕ
+    end = last 0 l
 
     abbrev between : Bool
     between = allStand (soundPlaces s (c .task .now) (c .bundle)) (placeLimits s (c .bundle)) 0 l
@@ -75,20 +76,20 @@ module _ (s : List ℕ) (c : Card) (e : ℕ) (t : CardRead s c e) where
     above r = stands (rootsAbove s (c .task .now) c) (rootLimits s (c .roots)) (length l) r
 
     abbrev issuers : ℕ
-    issuers = getD (rootRows s (c .roots) (c .bundle) (c .verdicts)) last 0
+    issuers = getD (rootRows s (c .roots) (c .bundle) (c .verdicts)) end 0
 
     -- a root by which the path is judged right is one by which it qualifies
     pub root-judged : (r : ℕ) → between && (has r issuers && above r) ≡ qualifies content (0 ∷ l) r
     unfolding contentOf bySeat
-    root-judged r = ap (λ b. between && (b && above r)) (root-row-agrees s c e t r last) ∙ by-issuer (issued content (root r) last) refl
+    root-judged r = ap (λ b. between && (b && above r)) (root-row-agrees s c e t r end) ∙ by-issuer (issued content (root r) end) refl
       where
-        by-issuer : (b : Bool) → issued content (root r) last ≡ b
+        by-issuer : (b : Bool) → issued content (root r) end ≡ b
             → between && (b && above r) ≡ (b && policy (content .now) (content .host) (chainOf content 0 l r))
         by-issuer false k = and-no between false refl
         by-issuer true k =
             rw (
               all-stand-read s c e t (c .task .now) 0 l inside (omega arith),
-              top-read s c e t (c .task .now) (length l) r there (issuer-there r last k) few,
+              top-read s c e t (c .task .now) (length l) r there (issuer-there r end k) few,
               policy-by-seat (c .task .now) (content .host) (place 0) (map place l) (top r),
               length-map,
             )
@@ -107,16 +108,16 @@ module _ (s : List ℕ) (c : Card) (e : ℕ) (t : CardRead s c e) where
         (placeLimits s (c .bundle)) (rootsAbove s (c .task .now) c) (rootLimits s (c .roots)) (0 ∷ l)
         ≡ seek (qualifies content (0 ∷ l)) 0 32
     judged-root =
-        let low : last < 16 = let a = last-inside (c .bundle .count) 0 l there inside in let b = count-few 16 s _ _ _ (t .bundle) in omega arith in
-        rw (lt-ltb last 16 low) (by-between between refl)
+        let low : end < 16 = let a = last-inside (c .bundle .count) 0 l there inside in let b = count-few 16 s _ _ _ (t .bundle) in omega arith in
+        rw (lt-ltb end 16 low) (by-between between refl)
 
   -- a root by which a path qualifies is there
   pub qualifies-there : (p : List ℕ) (r : ℕ) → c .roots .count ≤ r → qualifies content p r ≡ false
   qualifies-there [] r h = refl
-  qualifies-there (p ∷ l) r h = ap (λ b. b && policy (content .now) (content .host) (chainOf content p l r)) (not-issued (issued content (root r) (lastOf p l)) refl)
+  qualifies-there (p ∷ l) r h = ap (λ b. b && policy (content .now) (content .host) (chainOf content p l r)) (not-issued (issued content (root r) (last p l)) refl)
     where
-      not-issued : (b : Bool) → issued content (root r) (lastOf p l) ≡ b → issued content (root r) (lastOf p l) ≡ false
-      not-issued true k = let q = issuer-there r (lastOf p l) k in absurd (omega arith)
+      not-issued : (b : Bool) → issued content (root r) (last p l) ≡ b → issued content (root r) (last p l) ≡ false
+      not-issued true k = let q = issuer-there r (last p l) k in absurd (omega arith)
       not-issued false k = k
 
   -- where none of those that are there qualifies, none does

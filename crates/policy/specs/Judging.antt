@@ -6,13 +6,9 @@ use mathlib.Core.List.{List, [], _∷_}
 use lib.Dec.{leb, ltb}
 use lib.ListN.{length, getD}
 use Rattle.rows.specs.Rows.{has, seek}
+use Rattle.order.specs.Paths.{last}
 use Rattle.policy.specs.declared.path.Top.{Top}
 use Rattle.policy.specs.declared.path.Top.the-variants as top
-
--- the last place of a path
-abbrev pub lastOf : ℕ → List ℕ → ℕ
-lastOf p [] = p
-lastOf p (q ∷ l) = lastOf q l
 
 -- a place may stand with n certificates between it and the leaf
 unfoldable pub stands : ℕ → List ℕ → ℕ → ℕ → Bool
@@ -31,7 +27,7 @@ lowestAbove issued sound limits n = seek (λ r. has r issued && stands sound lim
 abbrev pub judgedRoot : List ℕ → ℕ → List ℕ → ℕ → List ℕ → List ℕ → ℕ
 judgedRoot issued between limits above tops [] = 32
 judgedRoot issued between limits above tops (p ∷ l) =
-    cond (ltb (lastOf p l) 16 && allStand between limits 0 l) (lowestAbove (getD issued (lastOf p l) 0) above tops (length l)) 32
+    cond (ltb (last p l) 16 && allStand between limits 0 l) (lowestAbove (getD issued (last p l) 0) above tops (length l)) 32
 
 -- the root of that number; none past the 32 that there can be
 abbrev pub topOf : ℕ → Top

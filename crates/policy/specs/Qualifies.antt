@@ -4,13 +4,13 @@ use mathlib.Core.Bool.{Bool, false, _&&_}
 use mathlib.Core.List.{List, [], _∷_}
 use Rattle.card.specs.Content.{Content, root}
 use Rattle.issuing.specs.Issued.{issued}
+use Rattle.order.specs.Paths.{last}
 use Rattle.policy.specs.Policy.{policy, chainOf}
-use Rattle.policy.specs.Judging.{lastOf}
 
 -- root r issued the last of a path
 abbrev pub reaches : Content → List ℕ → ℕ → Bool
 reaches c [] r = false
-reaches c (p ∷ l) r = issued c (root r) (lastOf p l)
+reaches c (p ∷ l) r = issued c (root r) (last p l)
 
 -- a path reaches root r, and the chain satisfies the policy
 abbrev pub qualifies : Content → List ℕ → ℕ → Bool

@@ -11,7 +11,7 @@ use Rattle.steps.specs.declared.Path.{Path}
 use Rattle.steps.specs.declared.Reply.{Reply}
 use Rattle.steps.specs.declared.Reply.the-variants as reply
 use Rattle.steps.specs.Answer.{told}
-use Rattle.report.specs.Lines.{lineShown, newline, placesIn, toldLine, wordsFor}
+use Rattle.report.specs.Lines.{lineShown, newline, placesShown, toldLine, wordsFor}
 use Rattle.report.specs.Text.{ascii, decimal}
 use Rattle.report.specs.declared.line.Line.{Line}
 
@@ -32,31 +32,31 @@ fault-error LeftOver = omega arith
 
 module _ {x : Reply} (p : Path) {r : Line} where
   pub line-accepted : {root : RootPlace} {s : ℕ} → x ≡ reply.Accepted root s
-      → r ≡ lineShown (wordsFor 0 (root .0) s (placesIn p) ++ newline) → r ≡ lineShown (toldLine (told x) (placesIn p))
+      → r ≡ lineShown (wordsFor 0 (root .0) s (placesShown p) ++ newline) → r ≡ lineShown (toldLine (told x) (placesShown p))
   unfolding toldLine
   line-accepted e h = rw e h
 
   pub line-refused : {s : ℕ} → x ≡ reply.Refused s
-      → r ≡ lineShown ((ascii "REFUSE steps " ++ decimal s) ++ newline) → r ≡ lineShown (toldLine (told x) (placesIn p))
+      → r ≡ lineShown ((ascii "REFUSE steps " ++ decimal s) ++ newline) → r ≡ lineShown (toldLine (told x) (placesShown p))
   unfolding toldLine wordsFor
   line-refused e h = rw e h
 
   pub line-exhausted : {s : ℕ} → x ≡ reply.Exhausted s
-      → r ≡ lineShown ((ascii "EXHAUSTED steps " ++ decimal s) ++ newline) → r ≡ lineShown (toldLine (told x) (placesIn p))
+      → r ≡ lineShown ((ascii "EXHAUSTED steps " ++ decimal s) ++ newline) → r ≡ lineShown (toldLine (told x) (placesShown p))
   unfolding toldLine wordsFor
   line-exhausted e h = rw e h
 
   pub line-empty : x ≡ reply.EmptyChain
-      → r ≡ lineShown ((ascii "ERROR " ++ decimal 3) ++ newline) → r ≡ lineShown (toldLine (told x) (placesIn p))
+      → r ≡ lineShown ((ascii "ERROR " ++ decimal 3) ++ newline) → r ≡ lineShown (toldLine (told x) (placesShown p))
   unfolding toldLine wordsFor
   line-empty e h = rw e h
 
   pub line-unread : {f : Fault} {n : ℕ} → x ≡ reply.Unread f → n ≡ number f
-      → r ≡ lineShown ((ascii "ERROR " ++ decimal n) ++ newline) → r ≡ lineShown (toldLine (told x) (placesIn p))
+      → r ≡ lineShown ((ascii "ERROR " ++ decimal n) ++ newline) → r ≡ lineShown (toldLine (told x) (placesShown p))
   unfolding toldLine
-  line-unread {f} {n} e k h = rw (e, error-words (number f) 0 0 (placesIn p) (fault-error f), ← k) h
+  line-unread {f} {n} e k h = rw (e, error-words (number f) 0 0 (placesShown p) (fault-error f), ← k) h
 
   pub line-no-room : x ≡ reply.NoRoom
-      → r ≡ lineShown ((ascii "ERROR " ++ decimal 10) ++ newline) → r ≡ lineShown (toldLine (told x) (placesIn p))
+      → r ≡ lineShown ((ascii "ERROR " ++ decimal 10) ++ newline) → r ≡ lineShown (toldLine (told x) (placesShown p))
   unfolding toldLine wordsFor
   line-no-room e h = rw e h

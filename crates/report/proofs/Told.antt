@@ -12,15 +12,15 @@ use Rattle.steps.specs.declared.Reply.the-variants as reply
 use Rattle.steps.specs.Answer.{Tells, Stops, telling, saying, shown, placed, pathShown}
 use Rattle.steps.specs.Settles.{Roots, Outcome}
 use Rattle.steps.specs.Slots.{padded}
-use Rattle.report.specs.Lines.{lineOf, newline, numberOf, placesIn, spaced, toldLine, wordsFor}
+use Rattle.report.specs.Lines.{lineOf, newline, numberOf, placesShown, spaced, toldLine, wordsFor}
 use Rattle.report.specs.Text.{ascii, decimal, decimalIn}
 
 opened : (p : List ℕ) → map numberOf (map placed p) ≡ p
 opened [] = refl
 opened (i ∷ p) = ap (λ (l : List ℕ). i ∷ l) (opened p)
 
-path-places : (p : List ℕ) → placesIn (pathShown p) ≡ p
-unfolding placesIn pathShown padded
+path-places : (p : List ℕ) → placesShown (pathShown p) ≡ p
+unfolding placesShown pathShown padded
 path-places p =
     let z : List ℕ = replicate (16 - length p) 0 in
     ap (λ (l : List BundlePlace). map numberOf (take (length p) l)) (map-append placed p z)
@@ -36,12 +36,12 @@ line-stops t = rw (t .says, t .shows, path-places [])
 -- ---- lines
 
 accepted : lineOf (record { reply = reply.Accepted (record { 0 = 0 }) 1; path = pathShown (0 ∷ []) }) ≡ ascii "ACCEPT steps 1 root 0 path 0" ++ newline
-unfolding decimal decimalIn spaced wordsFor placesIn toldLine pathShown padded
+unfolding decimal decimalIn spaced wordsFor placesShown toldLine pathShown padded
 accepted = refl
 
 accepted-far :
     lineOf (record { reply = reply.Accepted (record { 0 = 31 }) 120; path = pathShown (0 ∷ 15 ∷ 9 ∷ []) }) ≡ ascii "ACCEPT steps 120 root 31 path 0 15 9" ++ newline
-unfolding decimal decimalIn spaced wordsFor placesIn toldLine pathShown padded
+unfolding decimal decimalIn spaced wordsFor placesShown toldLine pathShown padded
 accepted-far = refl
 
 refused : lineOf (record { reply = reply.Refused 16; path = pathShown [] }) ≡ ascii "REFUSE steps 16" ++ newline

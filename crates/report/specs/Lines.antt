@@ -29,8 +29,8 @@ abbrev pub numberOf : BundlePlace → ℕ
 numberOf p = p .0
 
 -- a path's places
-unfoldable pub placesIn : Path → List ℕ
-placesIn p = map numberOf (take (p .length) (p .places))
+unfoldable pub placesShown : Path → List ℕ
+placesShown p = map numberOf (take (p .length) (p .places))
 
 -- the line for what is told, with a path's places
 unfoldable pub toldLine : Told → List ℕ → List ℕ
@@ -38,7 +38,7 @@ toldLine t path = wordsFor (t .number) (t .root) (t .steps) path ++ newline
 
 -- the line for an answer
 abbrev pub lineOf : Answer → List ℕ
-lineOf a = toldLine (told (a .reply)) (placesIn (a .path))
+lineOf a = toldLine (told (a .reply)) (placesShown (a .path))
 
 -- bytes as a line is handed out: zeros past them, and how many they are
 unfoldable pub lineShown : List ℕ → Line

@@ -15,7 +15,7 @@ ghost use mathlib.Core.List.{List, _++_};
 ghost use mathlib.Core.Path.{_≡_};
 ghost use Prim.Native.Nat.{ℕ, _+_, _≤_, _<_, min};
 ghost use lib.ListN.{length};
-ghost use Rattle.report.specs.Lines.{lineOf, lineShown, newline, placesIn, spaced, wordsFor};
+ghost use Rattle.report.specs.Lines.{lineOf, lineShown, newline, placesShown, spaced, wordsFor};
 ghost use Rattle.report.specs.Text.{decimal};
 
 // The line for an answer.
@@ -47,7 +47,7 @@ pub fn line_of(answer: Answer) -> Line
 }
 
 fn accepted(root: RootPlace, steps: u64, path: Path) -> Line
-    ensures { λ r. ⌜ r ≡ lineShown (wordsFor 0 (root .0) steps (placesIn path) ++ newline) ⌝ }
+    ensures { λ r. ⌜ r ≡ lineShown (wordsFor 0 (root .0) steps (placesShown path) ++ newline) ⌝ }
 {
     let line = Line::new().with_number(b"ACCEPT steps ", steps);
     let line = line.with_number(b" root ", wide(root.0)).with(b" path");
@@ -66,7 +66,7 @@ fn numbered(word: &[u8], n: u64) -> Line
 fn with_places(line: Line, path: Path) -> Line
     requires { ⌜ line .length ≤ 47 ⌝ }
     ensures { λ r. ⌜ r .length ≤ line .length + 64 ⌝ }
-    ensures { λ r. ⌜ ((l : List ℕ) → line ≡ lineShown l → r ≡ lineShown (l ++ spaced (placesIn path))) ⌝ }
+    ensures { λ r. ⌜ ((l : List ℕ) → line ≡ lineShown l → r ≡ lineShown (l ++ spaced (placesShown path))) ⌝ }
 {
     let places = path.places;
     let n = shown(path.length);

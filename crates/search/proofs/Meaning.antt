@@ -17,9 +17,8 @@ use Rattle.issuing.specs.Issued.{issued}
 use Rattle.issuing.specs.Records.{bundleRows, rootRows}
 use Rattle.issuing.proofs.Agrees.{size-is, bundle-row-agrees}
 use Rattle.order.specs.Listing.{_among_}
-use Rattle.order.specs.Paths.{Simple}
+use Rattle.order.specs.Paths.{Simple, last}
 use Rattle.order.proofs.Simple.{simple-length}
-use Rattle.policy.specs.Judging.{lastOf}
 use Rattle.policy.specs.Qualifies.{qualifies}
 use Rattle.policy.specs.Sound.{soundPlaces, placeLimits, rootsAbove, rootLimits}
 use Rattle.policy.proofs.Qualified.{root-judged, qualifies-there, last-inside}
@@ -65,8 +64,8 @@ module _ (s : List ℕ) (c : Card) (e : ℕ) (t : CardRead s c e) where
           let k = simple-length (placesIn content) h′ in
           let inside : Inside (c .bundle .count) l = inside-all (c .bundle .count) l (λ x y. let z = h′ .inside x (there y) in omega arith) in
           let some : 0 < c .bundle .count = omega arith in
-          let low : lastOf 0 l < 16 = let a = last-inside (c .bundle .count) 0 l some inside in omega arith in
-          rw (q, lt-ltb (lastOf 0 l) 16 low) (root-judged s c e t l some inside (omega arith) r)
+          let low : last 0 l < 16 = let a = last-inside (c .bundle .count) 0 l some inside in omega arith in
+          rw (q, lt-ltb (last 0 l) 16 low) (root-judged s c e t l some inside (omega arith) r)
 
   pub qualifies-content : (p : List ℕ) (r : ℕ) → Simple (placesIn content) p → QualifiesBy rootsRead p r → QualifiesBy (rootsIn content) p r
   qualifies-content p r h x = by-test (ltb r (length (content .roots))) refl

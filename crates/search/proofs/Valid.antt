@@ -4,15 +4,15 @@ use mathlib.Core.Bool.{Bool, true, false, _&&_, false≢true}
 use mathlib.Core.List.{List, [], _∷_, List·Memᴰ·head as here, List·Memᴰ·tail as there}
 use mathlib.Core.Logic.{_≢_, _⊎_, inl, inr, _↔_}
 use mathlib.Core.Path.{_≡_, refl, sym, ap, _∙_}
-use Prim.Native.Nat.{ℕ, zero, suc, _-_, _≤_, _<_}
+use Prim.Native.Nat.{ℕ, zero, suc, _≤_, _<_}
 use native.Mathlib.Omega.{arith}
 use lib.ListN.{length}
 use Rattle.fields.specs.Fields.{got}
 use Rattle.card.specs.Content.{Content, root, bundled, contentP}
 use Rattle.issuing.specs.Issued.{issued}
 use Rattle.order.specs.Listing.{_among_, Sorted, nil, cons}
-use Rattle.order.specs.Paths.{Linked, Simple, Count}
-use Rattle.policy.specs.Judging.{lastOf}
+use Rattle.order.specs.Paths.{Linked, Simple, Count, last}
+use Rattle.order.proofs.Simple.{last-at}
 use Rattle.policy.specs.Policy.{policy, chainOf}
 use Rattle.steps.specs.declared.Answer.{Answer}
 use Rattle.steps.specs.Answer.{told, saying, Searched, fault}
@@ -31,12 +31,6 @@ among-at (x ∷ p) (suc i) h = there (among-at p i (omega arith))
 at-among : {x : ℕ} (p : List ℕ) → x among p → (i : ℕ) × (i < length p) × (x ≡ at p i)
 at-among (y ∷ p) (here e) = (0, omega arith, e)
 at-among (y ∷ p) (there m) = let (i, h, e) = at-among p m in (suc i, omega arith, e)
-
-last-at : (x : ℕ) (l : List ℕ) → lastOf x l ≡ at (x ∷ l) (length (x ∷ l) - 1)
-last-at x [] = refl
-last-at x (y ∷ l) =
-    let e : suc (length (y ∷ l) - 1) ≡ length (x ∷ y ∷ l) - 1 = omega arith in
-    last-at y l ∙ ap (at (x ∷ y ∷ l)) e
 
 -- ---- a path is simple in upstream's words exactly when it is in ours
 
@@ -97,13 +91,13 @@ module _ (c : Content) where
   to-root : (p : List ℕ) (r : ℕ) → Simple (placesIn c) p → QualifiesBy (rootsIn c) p r → ToRoot c p r × Satisfies c p r
   to-root [] r s x = absurd (false≢true (x .1))
   to-root (y ∷ l) r s x =
-      let (i, j) = both (issued c (root r) (lastOf y l)) (policy (c .now) (c .host) (chainOf c y l r)) (x .1) in
+      let (i, j) = both (issued c (root r) (last y l)) (policy (c .now) (c .host) (chainOf c y l r)) (x .1) in
       (record { there = x .0; simple = to-upstream (y ∷ l) s; issues = rw (← last-at y l) i }, j)
 
   from-root : (p : List ℕ) (r : ℕ) → ToRoot c p r → Satisfies c p r → QualifiesBy (rootsIn c) p r
   from-root [] r x y = absurd y
   from-root (z ∷ l) r x y =
-      let i : issued c (root r) (lastOf z l) ≡ true = rw (last-at z l) (x .issues) in
+      let i : issued c (root r) (last z l) ≡ true = rw (last-at z l) (x .issues) in
       (x .there, rw (i, y))
 
   module _ (n : ℕ) (all : Count (placesIn c) n) (enough : n ≤ c .budget) where

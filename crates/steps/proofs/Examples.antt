@@ -6,10 +6,10 @@ use Prim.Native.Nat.{ℕ}
 use native.Mathlib.Omega.{arith}
 use lib.Dec.{eqb, ltb}
 use lib.ListN.{length}
-use Rattle.order.specs.Paths.{Places}
+use Rattle.order.specs.Paths.{Places, last}
 use Rattle.order.specs.Waiting.{After}
 use Rattle.order.proofs.Waiting.{after-unique, stack-after}
-use Rattle.order.specs.Walk.{last, next, kids, walk, visit}
+use Rattle.order.specs.Walk.{next, kids, walk, visit}
 use Rattle.steps.specs.Settles.{Roots, Outcome, accepted, refused, exhausted, Settles, steps}
 use Rattle.steps.proofs.Exists.{read, found, settles}
 use Rattle.rows.specs.Rows.{seek}

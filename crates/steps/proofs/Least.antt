@@ -8,7 +8,8 @@ use borrow.Author.Tests.{ltb-true, ltb-false}
 use lib.Dec.{ltb}
 use lib.ListN.{length, getD}
 use Rattle.certificates.specs.declared.places.RootPlace.{RootPlace}
-use Rattle.policy.specs.Judging.{lastOf, stands, allStand, lowestAbove, judgedRoot, topOf}
+use Rattle.order.specs.Paths.{last}
+use Rattle.policy.specs.Judging.{stands, allStand, lowestAbove, judgedRoot, topOf}
 use Rattle.policy.specs.declared.path.Top.{Top}
 use Rattle.policy.specs.declared.path.Top.the-variants as top
 use Rattle.rows.specs.Rows.{has, seek}
@@ -42,10 +43,10 @@ module _ (issued : List ℕ) (between : ℕ) (limits : List ℕ) (above : ℕ) (
   judged-least : (p : List ℕ) → Least (qualifiesBy issued between limits above tops p) 0 32 (judgedRoot issued between limits above tops p)
   unfolding qualifiesBy lowestAbove
   judged-least [] = record { from = omega arith; within = omega arith; below = λ i h k. refl; passes = λ h. absurd (omega arith) }
-  judged-least (p ∷ l) = go (ltb (lastOf p l) 16 && allStand between limits 0 l)
+  judged-least (p ∷ l) = go (ltb (last p l) 16 && allStand between limits 0 l)
     where
       test : ℕ → Bool
-      test r = has r (getD issued (lastOf p l) 0) && stands above tops (length l) r
+      test r = has r (getD issued (last p l) 0) && stands above tops (length l) r
 
       go : (b : Bool) → Least (λ r. b && test r) 0 32 (cond b (seek test 0 32) 32)
       go true = seek-least test 0 32

@@ -8,8 +8,8 @@ use lib.ListN.{length, getD}
 use Rattle.fields.specs.Answers.{number}
 use Rattle.certificates.specs.declared.places.BundlePlace.{BundlePlace}
 use Rattle.issuing.specs.declared.Issuing.{Issuing}
-use Rattle.order.specs.Paths.{Places}
-use Rattle.policy.specs.Judging.{lastOf, stands, allStand}
+use Rattle.order.specs.Paths.{Places, last}
+use Rattle.policy.specs.Judging.{stands, allStand}
 use Rattle.policy.specs.declared.judged.Judged.{Judged}
 use Rattle.rows.specs.Rows.{has}
 use Rattle.steps.specs.Slots.{padded}
@@ -33,7 +33,7 @@ placesBy rows n = record { size = n; issued = issuers rows }
 unfoldable pub qualifiesBy : List ℕ → ℕ → List ℕ → ℕ → List ℕ → List ℕ → ℕ → Bool
 qualifiesBy issued between limits above tops [] r = false
 qualifiesBy issued between limits above tops (p ∷ l) r =
-    (ltb (lastOf p l) 16 && allStand between limits 0 l) && (has r (getD issued (lastOf p l) 0) && stands above tops (length l) r)
+    (ltb (last p l) 16 && allStand between limits 0 l) && (has r (getD issued (last p l) 0) && stands above tops (length l) r)
 
 -- 32 roots, at most
 abbrev pub rootsBy : List ℕ → ℕ → List ℕ → ℕ → List ℕ → Roots

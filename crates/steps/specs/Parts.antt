@@ -4,9 +4,9 @@ use mathlib.Core.List.{List, map}
 use mathlib.Core.Path.{_≡_}
 use Prim.Native.Nat.{ℕ, _+_, _*_, _≤_, _<_}
 use lib.ListN.{length, getD, take, drop}
-use Rattle.order.specs.Paths.{Places}
+use Rattle.order.specs.Paths.{Places, last}
 use Rattle.order.specs.Waiting.{After}
-use Rattle.order.specs.Walk.{keep, down, used, last, snoc}
+use Rattle.order.specs.Walk.{keep, down, used, snoc}
 use Rattle.steps.specs.declared.Reply.{Reply}
 use Rattle.steps.specs.Answer.{told, saying, shown}
 use Rattle.steps.specs.Settles.{Roots, Outcome, Settles, steps}

@@ -7,7 +7,7 @@ use Prim.Native.Nat.{ℕ, _+_, _-_, _*_, _≤_, _<_}
 use native.Mathlib.Nat.{min-le-right}
 use native.Mathlib.Omega.{arith}
 use lib.ListN.{length, take, length-map}
-use Rattle.report.specs.Lines.{lineShown, spaced, numberOf, placesIn}
+use Rattle.report.specs.Lines.{lineShown, spaced, numberOf, placesShown}
 use Rattle.report.specs.Text.{ascii, decimal}
 use Rattle.report.proofs.Decimals.{decimal-u8}
 use Rattle.report.proofs.Places.{place-behind, take-few}
@@ -77,7 +77,7 @@ loop-again c =
     )
 
 returns : tie.Need-returns Inv-loop μ-loop
-unfolding placesIn
+unfolding placesShown
 returns c =
     let l = c .before in
     let s = l .before in
