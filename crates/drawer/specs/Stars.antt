@@ -14,7 +14,7 @@ use Rattle.text.specs.Wildcard.{starDot, underStar, matchName}
 use Rattle.keys.specs.Address.{masked, holds, ipAddrInRange}
 use Rattle.names.specs.Names.{Attr}
 use Rattle.same.specs.Same.{sameAttr}
-use Rattle.subtree.specs.Subtree.{someOf, everyOf, rdnHasName, isSubtreeRdn}
+use Rattle.subtree.specs.Subtree.{rdnHasName, isSubtreeRdn}
 
 -- a text's bytes
 abbrev pub ascii : String → List ℕ
@@ -70,5 +70,5 @@ table =
 
 -- every case of the table has the answer that stands beside it, and "*." matches no name at all
 pub stars : (right table ≡ true) × ((name : List ℕ) → matchName starDot name ≡ false)
-unfolding lowered same hasByte startsWith endsWith normal normalFrom underStar matchName masked holds ipAddrInRange sameAttr someOf everyOf rdnHasName isSubtreeRdn answer right net a b table
+unfolding lowered same hasByte startsWith endsWith normal normalFrom underStar matchName masked holds ipAddrInRange sameAttr rdnHasName isSubtreeRdn answer right net a b table
 stars = (refl, λ name. refl)

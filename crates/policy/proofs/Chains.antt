@@ -6,10 +6,11 @@ use mathlib.Core.Bool.{Bool, true, false, _&&_}
 use mathlib.Core.List.{List, [], _∷_, _++_}
 use native.Mathlib.Omega.{arith}
 use lib.ListN.{length}
+use Rattle.text.specs.Each.{all}
 use Rattle.text.proofs.Each.{both-true}
 use Rattle.record.specs.Certificate.{Certificate}
 use Rattle.rules.specs.Rules.{inDate, wellFormed, handled, authority, allows, forServers, forHost}
-use Rattle.policy.specs.Policy.{Chain, all, pathLengths, policy}
+use Rattle.policy.specs.Policy.{Chain, pathLengths, policy}
 use Rattle.policy.specs.Sound.{betweenSound, topSound}
 
 -- ---- tests that come out true

@@ -2,6 +2,7 @@
 use Prim.Native.Nat.{ℕ, _+_}
 use mathlib.Core.Bool.{Bool, true, _&&_}
 use mathlib.Core.List.{List, [], _∷_, _++_, map}
+use Rattle.text.specs.Each.{all}
 use Rattle.record.specs.Certificate.{Certificate}
 use Rattle.card.specs.Content.{Content, root, bundled, certificateAt}
 use Rattle.rules.specs.Rules.{inDate, wellFormed, handled, authority, allows, forServers, forHost}
@@ -23,10 +24,6 @@ belowRoot ch = ch .leaf ∷ ch .between
 -- c1 to ck
 abbrev pub aboveLeaf : Chain → List Certificate
 aboveLeaf ch = ch .between ++ (ch .top ∷ [])
-
-abbrev pub all : (Certificate → Bool) → List Certificate → Bool
-all test [] = true
-all test (c ∷ l) = test c && all test l
 
 -- if cj has a path length p, then j-1 ≤ p: the first of these has n certificates between it and the leaf, the next one n+1
 unfoldable pub pathLengths : ℕ → List Certificate → Bool

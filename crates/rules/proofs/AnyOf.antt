@@ -6,11 +6,11 @@ use mathlib.Core.Path.{_≡_, refl, sym, ap, _∙_}
 use mathlib.Core.Bool.{Bool, true, false, _||_}
 use mathlib.Core.List.{List, []}
 use native.Mathlib.Omega.{arith}
+use Rattle.text.specs.Each.{any}
 use Rattle.fields.specs.Fields.{Parsed, got, stop, many}
 use Rattle.fields.proofs.Many.{many-split}
 use Rattle.lists.specs.declared.Row.{Row}
 use Rattle.lists.proofs.Meaning.{RowRead}
-use Rattle.rules.specs.Rules.{any}
 use Rattle.rules.specs.Records.{passes, anyOf}
 
 module _ {A : Type 0} (test : A → Bool) (p : List ℕ → ℕ → Parsed A) (s : List ℕ) where

@@ -1,19 +1,15 @@
 -- What is asked of one certificate (docs/CARD-FILE.md, "Policy"). Assumes nothing.
 use Prim.Native.Nat.{ℕ}
-use mathlib.Core.Bool.{Bool, true, false, not, _&&_, _||_}
-use mathlib.Core.List.{List, [], _∷_, map}
+use mathlib.Core.Bool.{Bool, true, not, _&&_, _||_}
+use mathlib.Core.List.{List, map}
 use mathlib.Core.Option.{Option, none, some}
 use lib.Dec.{eqb, leb}
 use lib.ListN.{length}
 use Rattle.extensions.specs.Extensions.{flag}
 use Rattle.text.specs.Bytes.{lowered, same}
+use Rattle.text.specs.Each.{any}
 use Rattle.text.specs.Wildcard.{matchName}
 use Rattle.record.specs.Certificate.{Certificate}
-
--- one of these passes
-abbrev pub any : {A : Type 0} → (A → Bool) → List A → Bool
-any test [] = false
-any test (x ∷ l) = test x || any test l
 
 -- not-before ≤ now ≤ not-after
 unfoldable pub inDate : ℕ → Certificate → Bool

@@ -8,16 +8,15 @@ use mathlib.Core.Logic.{_↔_, Iff·trans, Iff·and, Iff·rfl}
 use native.Mathlib.Omega.{arith}
 use lib.ListN.{length, getD}
 use borrow.Author.Count.{below-none}
+use Rattle.text.specs.Each.{any, all}
 use Rattle.text.proofs.Each.{both-true, each-more}
-use Rattle.subtree.specs.Subtree.{someOf, everyOf}
 
 -- what stands past a row's end is d
 module _ {A : Type 0} (d : A) where
-  pub every-of-each : (q : A → Bool) (l : List A) → (everyOf q l ≡ true) ↔ ((i : ℕ) → i < length l → q (getD l i d) ≡ true)
-  unfolding everyOf
+  pub every-of-each : (q : A → Bool) (l : List A) → (all q l ≡ true) ↔ ((i : ℕ) → i < length l → q (getD l i d) ≡ true)
   every-of-each q [] = (λ _. below-none (λ i. q (getD [] i d) ≡ true), λ _. refl)
   every-of-each q (x ∷ l) =
-      Iff·trans (both-true (q x) (everyOf q l))
+      Iff·trans (both-true (q x) (all q l))
       (Iff·trans (Iff·and Iff·rfl (every-of-each q l)) (each-more (λ i. q (getD (x ∷ l) i d) ≡ true) (length l)))
 
   -- a place where q holds
@@ -26,14 +25,13 @@ module _ {A : Type 0} (d : A) where
     pub within : place < length l
     pub holds : q (getD l place d) ≡ true
 
-  pub some-of-at : (q : A → Bool) (l : List A) → (someOf q l ≡ true) ↔ At q l
-  unfolding someOf
+  pub some-of-at : (q : A → Bool) (l : List A) → (any q l ≡ true) ↔ At q l
   some-of-at q [] = (λ e. absurd (false≢true e), λ h. absurd (omega (arith, h .within)))
   some-of-at q (x ∷ l) = (found (some-of-at q l .0) (q x) refl, λ h. back (some-of-at q l .1) (h .place) (h .within) (h .holds)) where
-    found : (someOf q l ≡ true → At q l) → (t : Bool) → q x ≡ t → t || someOf q l ≡ true → At q (x ∷ l)
+    found : (any q l ≡ true → At q l) → (t : Bool) → q x ≡ t → t || any q l ≡ true → At q (x ∷ l)
     found rest true e h = record { place = 0; within = omega arith; holds = e }
     found rest false e h = let r = rest h in record { place = suc (r .place); within = omega (arith, r .within); holds = r .holds }
 
-    back : (At q l → someOf q l ≡ true) → (i : ℕ) → i < suc (length l) → q (getD (x ∷ l) i d) ≡ true → q x || someOf q l ≡ true
+    back : (At q l → any q l ≡ true) → (i : ℕ) → i < suc (length l) → q (getD (x ∷ l) i d) ≡ true → q x || any q l ≡ true
     back rest zero h e = rw e
     back rest (suc i) h e = rw (rest (record { place = i; within = omega arith; holds = e })) (or-true (q x))

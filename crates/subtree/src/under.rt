@@ -11,12 +11,13 @@ use names::rdn_begins;
 use same::Walk;
 use same::attr_walk;
 ghost use mathlib.Core.Path.{_≡_};
+ghost use Rattle.text.specs.Each.{all};
 ghost use Rattle.fields.specs.Fields.{many};
 ghost use Rattle.names.specs.Names.{attrP, rdnP, nameP};
 ghost use Rattle.same.specs.Same.{places};
 ghost use Rattle.same.specs.Answers.{bothRead};
 ghost use Rattle.same.specs.Walks.{walk};
-ghost use Rattle.subtree.specs.Subtree.{everyOf, rdnHasName, isSubtreeRdn, isSubtreeOf};
+ghost use Rattle.subtree.specs.Subtree.{rdnHasName, isSubtreeRdn, isSubtreeOf};
 ghost use Rattle.subtree.specs.Rows.{Fine, standing, hasRead};
 
 // Whether some attribute of an RDN of s is the same as the attribute at a place of t.
@@ -44,7 +45,7 @@ pub(crate) fn has_name(s: &[u8], rdn: Rdn, t: &[u8], bt: usize, normalise: bool)
 
 // Whether the RDN b of t has every attribute of the RDN a of s.
 fn has_names(s: &[u8], a: Rdn, t: &[u8], b: Rdn, normalise: bool) -> bool
-    ensures { λ r. ⌜ r ≡ everyOf
+    ensures { λ r. ⌜ r ≡ all
         (rdnHasName normalise (standing attrP (b .count) (now (t .entry)) (b .first)))
         (standing attrP (a .count) (now (s .entry)) (a .first)) ⌝ }
 {

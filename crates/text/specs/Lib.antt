@@ -1,3 +1,4 @@
 pub mod Bytes
+pub mod Each
 pub mod Normal
 pub mod Wildcard

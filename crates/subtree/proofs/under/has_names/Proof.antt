@@ -3,8 +3,9 @@
 use mathlib.Core.Path.{_≡_, refl, sym, _∙_}
 use borrow.Author.Needs.{needs}
 use borrow.Author.Tests.{not-true, not-false}
+use Rattle.text.specs.Each.{all}
 use Rattle.names.specs.Names.{attrP}
-use Rattle.subtree.specs.Subtree.{everyOf, rdnHasName}
+use Rattle.subtree.specs.Subtree.{rdnHasName}
 use Rattle.subtree.specs.Rows.{standing}
 use Rattle.names.proofs.Attributes.{attr-read, attr-stops}
 use Rattle.subtree.proofs.Members.{has-read}
@@ -14,8 +15,8 @@ use Rattle.subtree.proofs.under.has_names.Tie as tie
 
 abbrev Inv-loop : tie.InvT-loop
 Inv-loop s t b normalise at₀ rest₀ at rest =
-    everyOf (rdnHasName normalise (standing attrP (b .count) t (b .first))) (standing attrP rest₀ s at₀)
-    ≡ everyOf (rdnHasName normalise (standing attrP (b .count) t (b .first))) (standing attrP rest s at)
+    all (rdnHasName normalise (standing attrP (b .count) t (b .first))) (standing attrP rest₀ s at₀)
+    ≡ all (rdnHasName normalise (standing attrP (b .count) t (b .first))) (standing attrP rest s at)
 
 abbrev μ-loop : tie.MeasureT-loop
 μ-loop s t b normalise at₀ rest₀ at rest = rest
@@ -33,7 +34,6 @@ has-name-requires : tie.Need-has-name-requires Inv-loop μ-loop
 has-name-requires c κs = search needs
 
 returns : tie.Need-returns Inv-loop μ-loop
-unfolding everyOf
 returns c =
     let k = c .before .before .before .before .before in
     let x = attr-read _ _ _ (k .attribute-at .ensures) _ (c .before .before .before .x .given .1) in
@@ -47,7 +47,6 @@ loop-less : tie.Need-loop-less Inv-loop μ-loop
 loop-less c = search needs
 
 loop-again : tie.Need-loop-again Inv-loop μ-loop
-unfolding everyOf
 loop-again c =
     let k = c .before .before .before .before .before in
     let x = attr-read _ _ _ (k .attribute-at .ensures) _ (c .before .before .before .x .given .1) in
@@ -58,14 +57,12 @@ enum-told : tie.Need-enum-told Inv-loop μ-loop
 enum-told c = search needs
 
 returns-2 : tie.Need-returns-2 Inv-loop μ-loop
-unfolding everyOf
 returns-2 c =
     let k = c .before .before in
     let stops = attr-stops _ _ _ (k .attribute-at .ensures) _ (c .enum-told .given .1) in
     sym (k .before .before .loop .inv ∙ rw (standing-some attrP _ _ _ (k .before .loop-test .taken), stops))
 
 returns-3 : tie.Need-returns-3 Inv-loop μ-loop
-unfolding everyOf
 returns-3 c = sym (c .before .loop .inv ∙ rw (standing-none attrP _ _ _ (c .loop-test .left)))
 
 pub has-names-spec : {M : Type 1} → statement M
