@@ -1,4 +1,4 @@
--- Verdict's quantifiers over the places of a row, given by our definitions: `exists` (`some-of-at`) and `forall` (`every-of-each`).
+-- Verdict's quantifiers over the places of a row, given by our definitions: `exists` (`any-at`) and `forall` (`all-each`).
 -- Assumes nothing.
 use Prim.Native.Nat.{ℕ, zero, suc, _<_}
 use mathlib.Core.Path.{_≡_, refl}
@@ -13,11 +13,11 @@ use Rattle.text.proofs.Each.{both-true, each-more}
 
 -- what stands past a row's end is d
 module _ {A : Type 0} (d : A) where
-  pub every-of-each : (q : A → Bool) (l : List A) → (all q l ≡ true) ↔ ((i : ℕ) → i < length l → q (getD l i d) ≡ true)
-  every-of-each q [] = (λ _. below-none (λ i. q (getD [] i d) ≡ true), λ _. refl)
-  every-of-each q (x ∷ l) =
+  pub all-each : (q : A → Bool) (l : List A) → (all q l ≡ true) ↔ ((i : ℕ) → i < length l → q (getD l i d) ≡ true)
+  all-each q [] = (λ _. below-none (λ i. q (getD [] i d) ≡ true), λ _. refl)
+  all-each q (x ∷ l) =
       Iff·trans (both-true (q x) (all q l))
-      (Iff·trans (Iff·and Iff·rfl (every-of-each q l)) (each-more (λ i. q (getD (x ∷ l) i d) ≡ true) (length l)))
+      (Iff·trans (Iff·and Iff·rfl (all-each q l)) (each-more (λ i. q (getD (x ∷ l) i d) ≡ true) (length l)))
 
   -- a place where q holds
   pub record At (q : A → Bool) (l : List A) : Type 0 where
@@ -25,9 +25,9 @@ module _ {A : Type 0} (d : A) where
     pub within : place < length l
     pub holds : q (getD l place d) ≡ true
 
-  pub some-of-at : (q : A → Bool) (l : List A) → (any q l ≡ true) ↔ At q l
-  some-of-at q [] = (λ e. absurd (false≢true e), λ h. absurd (omega (arith, h .within)))
-  some-of-at q (x ∷ l) = (found (some-of-at q l .0) (q x) refl, λ h. back (some-of-at q l .1) (h .place) (h .within) (h .holds)) where
+  pub any-at : (q : A → Bool) (l : List A) → (any q l ≡ true) ↔ At q l
+  any-at q [] = (λ e. absurd (false≢true e), λ h. absurd (omega (arith, h .within)))
+  any-at q (x ∷ l) = (found (any-at q l .0) (q x) refl, λ h. back (any-at q l .1) (h .place) (h .within) (h .holds)) where
     found : (any q l ≡ true → At q l) → (t : Bool) → q x ≡ t → t || any q l ≡ true → At q (x ∷ l)
     found rest true e h = record { place = 0; within = omega arith; holds = e }
     found rest false e h = let r = rest h in record { place = suc (r .place); within = omega (arith, r .within); holds = r .holds }
