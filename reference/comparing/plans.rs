@@ -66,6 +66,30 @@ fn chain(random: &mut Random) -> Plan {
     let length = random.pick(&[n, part, part]);
     let others = shuffled(random, (1..n).collect());
     let chain: Vec<usize> = [0].into_iter().chain(others).take(length).collect();
+    let mut bundle = strays(random, n, length);
+    for (j, place) in chain.iter().enumerate() {
+        bundle[*place] = Who {
+            subject: j,
+            issuer: j + 1,
+        };
+    }
+    let mut roots = tops(random, length);
+    let root = random.below(roots.len());
+    roots[root] = top(length);
+    Plan {
+        roots,
+        bundle,
+        chain,
+        root: Some(root),
+        root_hit: random.pick(&[60, 90, 100]),
+        hit: random.pick(&[60, 90, 100]),
+        noise: random.pick(&[0, 5, 30]),
+        root_path_length: None,
+    }
+}
+
+/// n certificates beside a chain of so many houses: some repeat or cross it, the others have nothing to do with it.
+fn strays(random: &mut Random, n: usize, length: usize) -> Vec<Who> {
     let stray = |place: usize| Who {
         subject: 40 + place,
         issuer: 60 + place,
@@ -78,17 +102,12 @@ fn chain(random: &mut Random) -> Plan {
             *who = Who { subject, issuer };
         }
     }
-    for (j, place) in chain.iter().enumerate() {
-        bundle[*place] = Who {
-            subject: j,
-            issuer: j + 1,
-        };
-    }
+    bundle
+}
+
+/// Roots of which some are of the chain's top house, and some of a house below it.
+fn tops(random: &mut Random, length: usize) -> Vec<Who> {
     let count = root_count(random).max(1);
-    let top = |house: usize| Who {
-        subject: house,
-        issuer: house,
-    };
     let mut roots: Vec<Who> = (0..count).map(|place| top(80 + place)).collect();
     for root in &mut roots {
         match random.below(10) {
@@ -97,17 +116,13 @@ fn chain(random: &mut Random) -> Plan {
             _ => {}
         }
     }
-    let root = random.below(count);
-    roots[root] = top(length);
-    Plan {
-        roots,
-        bundle,
-        chain,
-        root: Some(root),
-        root_hit: random.pick(&[60, 90, 100]),
-        hit: random.pick(&[60, 90, 100]),
-        noise: random.pick(&[0, 5, 30]),
-        root_path_length: None,
+    roots
+}
+
+fn top(house: usize) -> Who {
+    Who {
+        subject: house,
+        issuer: house,
     }
 }
 
