@@ -3,17 +3,17 @@
 -- root that is passed over. The path's own root: `root-nowhere`, `root-past`, `root-unissued`, `root-lacks`, `root-stands`. The first that
 -- passes a test that none passes: `seek-none`. Assumes nothing.
 use Prim.Native.Nat.{ℕ, suc, _+_, _-_, _<_, _≤_}
-use mathlib.Core.Bool.{Bool, true, false, cond, _&&_}
+use mathlib.Core.Bool.{Bool, true, false, cond, _&&_, false≢true}
 use mathlib.Core.List.{List, [], _∷_}
 use mathlib.Core.Path.{_≡_, refl, sym, _∙_}
 use native.Mathlib.Numerals.{add-one}
 use native.Mathlib.Omega.{arith}
 use borrow.Author.Tests.{lt-ltb, le-ltb, le-leb, lt-leb}
-use lib.Dec.{ltb}
+use lib.Dec.{leb, ltb}
 use lib.ListN.{length, getD, drop, drop-of-length-le}
 use lib.Seq.{drop-cons}
-use Rattle.rows.specs.Rows.{has, seek}
-use Rattle.rows.proofs.Places.{has-none, seek-is}
+use Rattle.rows.specs.Rows.{has, common, seek}
+use Rattle.rows.proofs.Places.{has-none, has-common, seek-is}
 use Rattle.order.specs.Paths.{last}
 use Rattle.order.proofs.Simple.{last-at}
 use Rattle.policy.specs.Judging.{stands, allStand, lowestAbove, judgedRoot}
@@ -102,16 +102,24 @@ module _ (issued sound : ℕ) (limits : List ℕ) (n : ℕ) where
     unfolding stands
     above-found i s h = above-next ∙ rw (i, s, le-leb n (getD limits r 0) h)
 
--- ---- where no root issued
+-- ---- where no root both issued and may stand above
 
 -- the first of n that passes a test that none passes
 pub seek-none : (test : ℕ → Bool) (n : ℕ) → ((i : ℕ) → test i ≡ false) → seek test 0 n ≡ n
 seek-none test n h =
     sym (seek-is test 0 n n (record { from = omega arith; within = omega arith; below = λ i _ _. h i; passes = λ l. absurd (omega arith) }))
 
-above-none : (sound : ℕ) (limits : List ℕ) (n : ℕ) → lowestAbove 0 sound limits n ≡ 32
-unfolding lowestAbove
-above-none sound limits n = seek-none (tops 0 sound limits n) 32 (λ i. rw (has-none i))
+above-none : (issued sound : ℕ) (limits : List ℕ) (n : ℕ) → common issued sound ≡ 0 → lowestAbove issued sound limits n ≡ 32
+unfolding lowestAbove stands
+above-none issued sound limits n e = seek-none (tops issued sound limits n) 32 (λ i. apart (has i issued) (has i sound) (leb n (getD limits i 0)) (not-both i))
+  where
+    not-both : (i : ℕ) → has i issued && has i sound ≡ false
+    not-both i = sym (has-common i issued sound) ∙ rw e (has-none i)
+
+    apart : (a b c : Bool) → a && b ≡ false → a && (b && c) ≡ false
+    apart false b c h = refl
+    apart true false c h = refl
+    apart true true c h = absurd (false≢true (sym h))
 
 -- ---- the path's root
 
@@ -134,11 +142,11 @@ module _ (issued : List ℕ) (between : ℕ) (limits : List ℕ) (above : ℕ) (
   root-past [] h = refl
   root-past (p ∷ l) h = let k : 16 ≤ last p l = rw (sym (end-is p l)) h in rw (le-ltb (last p l) 16 k)
 
-  pub root-unissued : (path : List ℕ) → getD issued (end path) 0 ≡ 0 → root path ≡ 32
+  pub root-unissued : (path : List ℕ) → common (getD issued (end path) 0) above ≡ 0 → root path ≡ 32
   root-unissued [] e = refl
   root-unissued (p ∷ l) e =
-      let none : getD issued (last p l) 0 ≡ 0 = rw (sym (end-is p l)) e in
-      rw (none, above-none above tops (length l)) (nowhere (ltb (last p l) 16 && allStand between limits 0 l) 32)
+      let none : common (getD issued (last p l) 0) above ≡ 0 = rw (sym (end-is p l)) e in
+      rw (above-none (getD issued (last p l) 0) above tops (length l) none) (nowhere (ltb (last p l) 16 && allStand between limits 0 l) 32)
     where
       nowhere : (b : Bool) (r : ℕ) → cond b r r ≡ r
       nowhere true r = refl

@@ -3,6 +3,7 @@ use card::Bundle;
 use card::RootPlace;
 use card::Roots;
 use rows::has;
+use rows::shared;
 ghost use mathlib.Core.Path.{_≡_};
 ghost use lib.ListN.{drop};
 ghost use Rattle.policy.specs.Judging.{allStand, lowestAbove, judgedRoot, topOf};
@@ -33,9 +34,9 @@ pub fn lowest_root(
     if Bundle::MOST <= last {
         return Top::None;
     }
-    // Most paths end in a place that no root issued: they need not be walked.
+    // Most paths end in a place that no root issued which may stand above: they need not be walked.
     let reached = issued[last];
-    if reached == 0 {
+    if shared(reached, above) == 0 {
         return Top::None;
     }
     if all_stand(path, between, limits) {

@@ -1,5 +1,5 @@
 -- What the places of a row are, for those who keep sets in rows.
--- One place: `has-at`, `has-past`, `joined-at`, `joined-past` by its number, then `has-none`, `has-joined`, `has-left` for what makes a row.
+-- One place: `has-at`, `has-past`, `joined-at`, `joined-past` by its number, then `has-none`, `has-joined`, `has-left`, `has-common` for what makes a row.
 -- The row of a test: `has-row`; `row-none`, `row-more`, `row-kept` for a loop.
 -- The first that passes a test: `seek-least` says in words what it is, `seek-is` that nothing else is that; `seek-same`.
 -- The lowest place: `lowest-least`. A row without its lowest place: `dropped-above`, `dropped-below`, `dropped-later`.
@@ -15,7 +15,7 @@ use borrow.Author.Tests.{ltb-true, ltb-false, eqb-true, lt-ltb, le-ltb, eq-eqb, 
 use lib.Bits.{bitOr, bitAnd, bitXor, or-shr, or-mod, xor-shr, xor-mod, and-shr, and-mod}
 use lib.Dec.{eqb, ltb, lit<, eqb·zero-suc, eqb·suc-zero, eqb·suc-suc}
 use lib.Pow.{pow-lt}
-use Rattle.rows.specs.Rows.{has, joined, left, seek, lowest, rowOf}
+use Rattle.rows.specs.Rows.{has, joined, left, common, seek, lowest, rowOf}
 
 -- ---- a number's digits
 
@@ -37,6 +37,15 @@ but-two zero (suc (suc y)) h k = absurd (omega arith)
 but-two (suc zero) (suc (suc y)) h k = absurd (omega arith)
 but-two (suc (suc x)) y h k = absurd (omega arith)
 
+and-two : (x y : ℕ) → x < 2 → y < 2 → eqb (bitAnd x y) 1 ≡ eqb x 1 && eqb y 1
+and-two zero zero h k = refl
+and-two zero (suc zero) h k = refl
+and-two (suc zero) zero h k = refl
+and-two (suc zero) (suc zero) h k = refl
+and-two zero (suc (suc y)) h k = absurd (omega arith)
+and-two (suc zero) (suc (suc y)) h k = absurd (omega arith)
+and-two (suc (suc x)) y h k = absurd (omega arith)
+
 -- digit i of a number is set
 abbrev digit : ℕ → ℕ → Bool
 digit i x = eqb (x / 2 ^ i % 2) 1
@@ -46,6 +55,12 @@ digit-or i a b =
     ap (λ (x : ℕ). eqb (x % 2) 1) (or-shr a b i)
     ∙ ap (λ (x : ℕ). eqb x 1) (or-mod (a / 2 ^ i) (b / 2 ^ i) 1)
     ∙ or-two (a / 2 ^ i % 2) (b / 2 ^ i % 2) (mod-lt (a / 2 ^ i) (lit< tt)) (mod-lt (b / 2 ^ i) (lit< tt))
+
+digit-and : (i a b : ℕ) → digit i (bitAnd a b) ≡ digit i a && digit i b
+digit-and i a b =
+    ap (λ (x : ℕ). eqb (x % 2) 1) (and-shr a b i)
+    ∙ ap (λ (x : ℕ). eqb x 1) (and-mod (a / 2 ^ i) (b / 2 ^ i) 1)
+    ∙ and-two (a / 2 ^ i % 2) (b / 2 ^ i % 2) (mod-lt (a / 2 ^ i) (lit< tt)) (mod-lt (b / 2 ^ i) (lit< tt))
 
 digit-but : (i a b : ℕ) → digit i (bitXor a (bitAnd a b)) ≡ digit i a && not (digit i b)
 digit-but i a b =
@@ -112,6 +127,14 @@ has-left i row taken = go (ltb i 64)
   where
     go : (t : Bool) → t && digit i (bitXor row (bitAnd row taken)) ≡ t && digit i row && not (t && digit i taken)
     go true = digit-but i row taken
+    go false = refl
+
+pub has-common : (i row other : ℕ) → has i (common row other) ≡ has i row && has i other
+unfolding has common
+has-common i row other = go (ltb i 64)
+  where
+    go : (t : Bool) → t && digit i (bitAnd row other) ≡ (t && digit i row) && (t && digit i other)
+    go true = digit-and i row other
     go false = refl
 
 -- ---- the row of a test

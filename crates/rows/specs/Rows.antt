@@ -18,6 +18,10 @@ joined row i = cond (ltb i 64) (bitOr row (2 ^ i)) row
 unfoldable pub left : ℕ → ℕ → ℕ
 left row taken = bitXor row (bitAnd row taken)
 
+-- the places that stand in both of two rows
+unfoldable pub common : ℕ → ℕ → ℕ
+common row other = bitAnd row other
+
 -- the first number from i on, of so many, that passes a test; the one past them where none does
 unfoldable pub seek : (ℕ → Bool) → ℕ → ℕ → ℕ
 seek test i zero = i

@@ -1,6 +1,6 @@
 // A row: a set of places as the bits of one number. A row has room for more places than any limit asks, so that one width serves all.
 ghost use mathlib.Core.Path.{_≡_};
-ghost use Rattle.rows.specs.Rows.{has, joined, left, lowest};
+ghost use Rattle.rows.specs.Rows.{has, joined, left, common, lowest};
 
 // The places that a row has room for.
 pub struct Row {}
@@ -34,6 +34,13 @@ pub fn without(row: u64, taken: u64) -> u64
     ensures { λ r. ⌜ r ≡ left row taken ⌝ }
 {
     row ^ (row & taken)
+}
+
+// The places that stand in both of two rows.
+pub fn shared(row: u64, other: u64) -> u64
+    ensures { λ r. ⌜ r ≡ common row other ⌝ }
+{
+    row & other
 }
 
 // The lowest place of a row; as many as a row has room for where it has none.

@@ -36,10 +36,14 @@ mul-reached c = search needs
 element-copy-out-reached : tie.Need-element-copy-out-reached
 element-copy-out-reached c = search needs
 
+shared-requires : tie.Need-shared-requires
+shared-requires c κs = search needs
+
 returns-3 : tie.Need-returns-3
 returns-3 c =
-    let a = c .before .before .before .before .before .before .args in
-    sym (ap topOf (root-unissued (a .issued .now) (a .between) (a .limits .now) (a .above) (a .tops .now) (a .path .now) (c .if3 .taken)))
+    let a = c .before .before .before .before .before .before .before .args in
+    let none = sym (c .before .shared .ensures) ∙ c .if3 .taken in
+    sym (ap topOf (root-unissued (a .issued .now) (a .between) (a .limits .now) (a .above) (a .tops .now) (a .path .now) none))
 
 all-stand-requires : tie.Need-all-stand-requires
 all-stand-requires c κs = search needs
@@ -53,7 +57,7 @@ lowest-above-requires c κs = search needs
 returns-4 : tie.Need-returns-4
 returns-4 c =
     let s = c .before in
-    let p = s .before .before .before .before in
+    let p = s .before .before .before .before .before in
     let stands = sym (s .before .all-stand .ensures) ∙ s .if4 .taken in
     let a = p .before .before .before .before .args in
     c .lowest-above .ensures
@@ -66,7 +70,7 @@ returns-4 c =
 
 returns-5 : tie.Need-returns-5
 returns-5 c =
-    let a = c .before .before .before .before .before .before .before .before .args in
+    let a = c .before .before .before .before .before .before .before .before .before .args in
     sym (ap topOf (root-lacks (a .issued .now) (a .between) (a .limits .now) (a .above) (a .tops .now) (a .path .now) (sym (c .before .all-stand .ensures) ∙ c .if4 .left)))
 
 pub lowest-root-spec : {M : Type 1} → statement M
@@ -80,6 +84,7 @@ lowest-root-spec =
     returns-2
     mul-reached
     element-copy-out-reached
+    shared-requires
     returns-3
     all-stand-requires
     sub-lowest-above
