@@ -131,6 +131,25 @@ pub fn complete(certificates: usize, budget: u64) -> Vec<u8> {
     })
 }
 
+/// The same with 32 roots that issued every certificate but the first and let none stand below them: each path is walked, each root tried.
+pub fn barred(certificates: usize, budget: u64) -> Vec<u8> {
+    const ROOTS: usize = 32;
+    let each = || authority(between_name(0), 100, between_name(0), 100);
+    let root = || Certificate {
+        path_length: Some(0),
+        ..each()
+    };
+    let card = Card {
+        roots: (0..ROOTS).map(|_| root()).collect(),
+        bundle: (0..certificates).map(|_| each()).collect(),
+        signed: Box::new(|issuer, subject| issuer >= ROOTS || subject > 0),
+        now: NOW,
+        budget,
+        host: String::new(),
+    };
+    card.file()
+}
+
 /// What an ordinary file differs in.
 #[derive(Clone, Copy)]
 pub struct Ordinary {

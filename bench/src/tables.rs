@@ -87,20 +87,28 @@ fn micros(nanos: f64) -> String {
     format!("{:.2}", nanos / 1000.0)
 }
 
-/// Nanoseconds a step: what the whole search of a complete graph takes beyond a search of one step.
+/// Nanoseconds a step of complete graphs, without a root and with 32 that are tried for each path in vain.
 pub fn steps(lasting: Duration) {
     println!(
-        "| complete graph of | steps | {} | {} |",
+        "| complete graph of | steps | no root: {0} | {1} | 32 roots in vain: {0} | {1} |",
         LIBRARY.name, TUNED.name
     );
-    println!("|---|---|---|---|");
+    println!("|---|---|---|---|---|---|");
     for certificates in 5..=10 {
-        let all = inputs::complete(certificates, u64::MAX);
-        let steps = agreed(&all, [&LIBRARY, &TUNED]).steps;
-        let one = difference(&inputs::complete(certificates, 1), &all, lasting);
-        let each = one.map(|time| format!("{:.1} ns", time / (steps - 1) as f64));
-        println!("| {certificates} | {steps} | {} |", each.join(" | "));
+        let steps = agreed(&inputs::complete(certificates, u64::MAX), [&LIBRARY, &TUNED]).steps;
+        let without = a_step(inputs::complete, certificates, lasting);
+        let with = a_step(inputs::barred, certificates, lasting);
+        println!("| {certificates} | {steps} | {without} | {with} |");
     }
+}
+
+/// What the whole search of such a file takes beyond a search of one step, by the step, of the library and of the tuned version.
+fn a_step(file: fn(usize, u64) -> Vec<u8>, certificates: usize, lasting: Duration) -> String {
+    let all = file(certificates, u64::MAX);
+    let steps = agreed(&all, [&LIBRARY, &TUNED]).steps;
+    let more = difference(&file(certificates, 1), &all, lasting);
+    more.map(|time| format!("{:.1} ns", time / (steps - 1) as f64))
+        .join(" | ")
 }
 
 /// What one file takes more than another, by the library and by the tuned version.
