@@ -20,7 +20,8 @@ use Rattle.rows.specs.Rows.{has}
 use Rattle.rows.proofs.Places.{has-row, has-none}
 use Rattle.rows.proofs.Listing.{listing-there}
 use Rattle.issuing.proofs.Agrees.{size-is, root-is, bundled-is}
-use Rattle.rules.specs.Rules.{allows, limitOf}
+use Rattle.rules.specs.Rules.{allows}
+use Rattle.rules.specs.Limits.{limitOf}
 use Rattle.rules.proofs.LeafRead.{for-servers-read, for-host-read}
 use Rattle.rules.proofs.Limits.{limit-allows}
 use Rattle.policy.specs.Sound.{betweenSound, topSound, leafSoundAt, soundPlaces, placeLimits, soundRoots, rootLimits, rootsAbove}

@@ -11,7 +11,8 @@ use Rattle.certificates.specs.declared.roots.Roots.{Roots}
 use Rattle.certificates.specs.declared.bundle.Bundle.{Bundle}
 use Rattle.card.specs.declared.Card.{Card}
 use Rattle.rows.specs.Rows.{rowOf, listing}
-use Rattle.rules.specs.Rules.{inDate, wellFormed, handled, authority, limitOf}
+use Rattle.rules.specs.Rules.{inDate, wellFormed, handled, authority}
+use Rattle.rules.specs.Limits.{limitOf}
 use Rattle.rules.specs.Records.{forServersAt, forHostAt}
 
 -- between leaf and root

@@ -9,7 +9,8 @@ use borrow.Author.Tests.{eq-eqb, ne-eqb, le-leb}
 use Rattle.extensions.specs.Extensions.{flag}
 use Rattle.record.specs.Certificate.{Certificate, certificateOf}
 use Rattle.record.specs.declared.Record.{Record}
-use Rattle.rules.specs.Rules.{atMost, allows, orNoLimit, limitOf}
+use Rattle.rules.specs.Rules.{atMost, allows}
+use Rattle.rules.specs.Limits.{orNoLimit, limitOf}
 
 module _ (r : Record) (s : List ℕ) where
   pub limit-given : r .head .flags / 16 % 2 ≡ 1 → limitOf (certificateOf r s) ≡ r .extensions .«path_length»

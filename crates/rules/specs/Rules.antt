@@ -36,15 +36,6 @@ atMost n (some p) = leb n p
 unfoldable pub allows : ℕ → Certificate → Bool
 allows n c = atMost n (c .path-length)
 
--- a path length, or more than a path can have
-abbrev pub orNoLimit : Option ℕ → ℕ
-orNoLimit none = 255
-orNoLimit (some p) = p
-
--- how many certificates its path length lets stand between it and the leaf
-unfoldable pub limitOf : Certificate → ℕ
-limitOf c = orNoLimit (c .path-length)
-
 -- usage 0 (server) or 6 (any)
 unfoldable pub serving : ℕ → Bool
 serving u = eqb u 0 || eqb u 6

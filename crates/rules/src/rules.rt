@@ -6,7 +6,8 @@ ghost use mathlib.Core.List.{List};
 ghost use mathlib.Core.Path.{_≡_};
 ghost use Prim.Native.Nat.{ℕ};
 ghost use Rattle.record.specs.Certificate.{certificateOf};
-ghost use Rattle.rules.specs.Rules.{inDate, wellFormed, handled, authority, limitOf};
+ghost use Rattle.rules.specs.Rules.{inDate, wellFormed, handled, authority};
+ghost use Rattle.rules.specs.Limits.{limitOf};
 
 // Not before and not after, at a time that is given.
 pub fn in_date(time: u64, cert: Record) -> bool

@@ -1,0 +1,13 @@
+-- The path-length rule as one number for each certificate; the law `limit-allows` says that it comes to the rule. Assumes nothing.
+use Prim.Native.Nat.{ℕ}
+use mathlib.Core.Option.{Option, none, some}
+use Rattle.record.specs.Certificate.{Certificate}
+
+-- a path length, or more than a path can have
+abbrev pub orNoLimit : Option ℕ → ℕ
+orNoLimit none = 255
+orNoLimit (some p) = p
+
+-- how many certificates its path length lets stand between it and the leaf
+unfoldable pub limitOf : Certificate → ℕ
+limitOf c = orNoLimit (c .path-length)
