@@ -25,21 +25,20 @@ pub struct Job<'a> {
 }
 
 /// The time of a call of each job, in nanoseconds. Each call is lent cleared room.
-pub fn times<const N: usize>(jobs: [Job; N], lasting: Duration) -> [f64; N] {
-    let calls = jobs.map(calls);
-    let mut turns = jobs.map(|_| vec![]);
+pub fn times(jobs: &[Job], lasting: Duration) -> Vec<f64> {
+    let calls: Vec<u64> = jobs.iter().map(|job| calls(*job)).collect();
+    let mut turns = vec![vec![]; jobs.len()];
     let start = Instant::now();
     while start.elapsed() < lasting || turns[0].len() < LEAST_TURNS {
-        for at in 0..N {
+        for at in 0..jobs.len() {
             turns[at].push(turn(jobs[at], calls[at]));
         }
     }
-    let mut times = [0.0; N];
-    for at in 0..N {
-        turns[at].sort();
-        times[at] = turns[at][turns[at].len() / PASSED_OVER] as f64 / calls[at] as f64;
-    }
-    times
+    let best = |(mut turns, calls): (Vec<u64>, u64)| {
+        turns.sort();
+        turns[turns.len() / PASSED_OVER] as f64 / calls as f64
+    };
+    turns.into_iter().zip(calls).map(best).collect()
 }
 
 /// How often a job is called in a turn.
@@ -85,12 +84,13 @@ fn now() -> u64 {
 }
 
 /// What all of these versions answer. They must answer alike, and leave the lent room alike.
-pub fn agreed<const N: usize>(file: &[u8], versions: [&Version; N]) -> Answer {
-    let told = versions.map(|version| {
+pub fn agreed(file: &[u8], versions: &[&Version]) -> Answer {
+    let tell = |version: &&Version| {
         // lent full of sevens, with a part slot at the end
         let mut room = [7; ROOM + 5];
         ((version.search)(file, &mut room), room)
-    });
+    };
+    let told: Vec<(Answer, [u8; ROOM + 5])> = versions.iter().map(tell).collect();
     for (version, this) in versions.iter().zip(&told) {
         assert!(
             *this == told[0],

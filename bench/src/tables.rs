@@ -2,31 +2,42 @@
 
 use crate::clock::{agreed, times, Job};
 use crate::inputs::{self, Alike, Ordinary, HOST};
-use crate::versions::{Version, LIBRARY, ORDINARY, PACKED, TUNED, UPSTREAM};
+use crate::versions::{Version, BEFORE, LIBRARY, ORDINARY, PACKED, TUNED, UPSTREAM};
 use std::time::Duration;
 
-const ALL: [&Version; 5] = [&LIBRARY, &ORDINARY, &UPSTREAM, &TUNED, &PACKED];
+const ALL: [&Version; 6] = [&LIBRARY, &BEFORE, &ORDINARY, &UPSTREAM, &TUNED, &PACKED];
+
+/// Those whose parts are timed too.
+const CLOSE: [&Version; 3] = [&LIBRARY, &BEFORE, &TUNED];
 
 /// Whole answers, from the bytes of the file: the library's time, and its ratio to each other version.
 pub fn beside(lasting: Duration) {
-    println!(
-        "| file | bytes | reply | steps | {} |",
-        ALL.map(|version| version.name).join(" | ")
-    );
-    println!("|---|---|---|---|---|---|---|---|---|");
+    header(&["file", "bytes", "reply", "steps"], &[""], &ALL);
     row(
         "complete graph of nine",
         &inputs::complete(9, u64::MAX),
         lasting,
     );
-    let mut whole = [0.0; ALL.len()];
+    let mut whole = vec![0.0; ALL.len()];
     for (name, file) in ordinary_files() {
         let times = row(&name, &file, lasting);
         for (sum, time) in whole.iter_mut().zip(times) {
             *sum += time;
         }
     }
-    println!("| all but the first | | | | {}", cells(whole));
+    println!("| all but the first | | | | {} |", ratios(&whole, micros));
+}
+
+/// A table's head: its own columns, and for each kind of file one for each version.
+fn header(own: &[&str], kinds: &[&str], versions: &[&Version]) {
+    let named = |kind: &&str| {
+        let first = format!("{kind}{}", versions[0].name);
+        let others = versions[1..].iter().map(|version| version.name.to_string());
+        std::iter::once(first).chain(others).collect::<Vec<_>>()
+    };
+    let columns: Vec<String> = kinds.iter().flat_map(named).collect();
+    println!("| {} | {} |", own.join(" | "), columns.join(" | "));
+    println!("|{}", "---|".repeat(own.len() + columns.len()));
 }
 
 fn ordinary_files() -> Vec<(String, Vec<u8>)> {
@@ -58,74 +69,73 @@ fn ordinary_files() -> Vec<(String, Vec<u8>)> {
     all.map(file).collect()
 }
 
-fn row(name: &str, file: &[u8], lasting: Duration) -> [f64; ALL.len()] {
-    let answer = agreed(file, ALL);
-    let times = times(ALL.map(|version| Job { file, version }), lasting);
+fn row(name: &str, file: &[u8], lasting: Duration) -> Vec<f64> {
+    let answer = agreed(file, &ALL);
+    let times = times(&jobs(file, &ALL), lasting);
     println!(
-        "| {name} | {} | {} | {} | {}",
+        "| {name} | {} | {} | {} | {} |",
         file.len(),
         answer.number,
         answer.steps,
-        cells(times)
+        ratios(&times, micros)
     );
     times
 }
 
-/// The first time in microseconds, and its ratio to each of the others.
-fn cells(times: [f64; ALL.len()]) -> String {
-    let ratios = times[1..]
+fn jobs<'a>(file: &'a [u8], versions: &[&'a Version]) -> Vec<Job<'a>> {
+    let job = |version: &&'a Version| Job { file, version };
+    versions.iter().map(job).collect()
+}
+
+/// The first time as it is, and its ratio to each of the others.
+fn ratios(times: &[f64], shown: fn(f64) -> String) -> String {
+    let others = times[1..]
         .iter()
-        .map(|time| format!("{:.2} |", times[0] / time));
-    format!(
-        "{} us | {}",
-        micros(times[0]),
-        ratios.collect::<Vec<_>>().join(" ")
-    )
+        .map(|time| format!("{:.2}", times[0] / time));
+    let cells: Vec<String> = std::iter::once(shown(times[0])).chain(others).collect();
+    cells.join(" | ")
 }
 
 fn micros(nanos: f64) -> String {
-    format!("{:.2}", nanos / 1000.0)
+    format!("{:.2} us", nanos / 1000.0)
 }
 
-/// Nanoseconds a step of complete graphs, without a root and with 32 that are tried for each path in vain.
+fn nanos(nanos: f64) -> String {
+    format!("{nanos:.1} ns")
+}
+
+/// The time a step of complete graphs, without a root and with 32 that are tried for each path in vain.
 pub fn steps(lasting: Duration) {
-    println!(
-        "| complete graph of | steps | no root: {0} | {1} | 32 roots in vain: {0} | {1} |",
-        LIBRARY.name, TUNED.name
+    header(
+        &["complete graph of", "steps"],
+        &["no root: ", "32 roots in vain: "],
+        &CLOSE,
     );
-    println!("|---|---|---|---|---|---|");
     for certificates in 5..=10 {
-        let steps = agreed(&inputs::complete(certificates, u64::MAX), [&LIBRARY, &TUNED]).steps;
+        let steps = agreed(&inputs::complete(certificates, u64::MAX), &CLOSE).steps;
         let without = a_step(inputs::complete, certificates, lasting);
         let with = a_step(inputs::barred, certificates, lasting);
         println!("| {certificates} | {steps} | {without} | {with} |");
     }
 }
 
-/// What the whole search of such a file takes beyond a search of one step, by the step, of the library and of the tuned version.
+/// What the whole search of such a file takes beyond a search of one step, by the step.
 fn a_step(file: fn(usize, u64) -> Vec<u8>, certificates: usize, lasting: Duration) -> String {
     let all = file(certificates, u64::MAX);
-    let steps = agreed(&all, [&LIBRARY, &TUNED]).steps;
+    let steps = agreed(&all, &CLOSE).steps;
     let more = difference(&file(certificates, 1), &all, lasting);
-    more.map(|time| format!("{:.1} ns", time / (steps - 1) as f64))
-        .join(" | ")
+    let each: Vec<f64> = more.iter().map(|time| time / (steps - 1) as f64).collect();
+    ratios(&each, nanos)
 }
 
-/// What one file takes more than another, by the library and by the tuned version.
-fn difference(less: &[u8], more: &[u8], lasting: Duration) -> [f64; 2] {
-    let pair = [&LIBRARY, &TUNED];
-    agreed(less, pair);
-    agreed(more, pair);
-    let [a, b] = pair.map(|version| Job {
-        file: less,
-        version,
-    });
-    let [c, d] = pair.map(|version| Job {
-        file: more,
-        version,
-    });
-    let [a, b, c, d] = times([a, b, c, d], lasting);
-    [c - a, d - b]
+/// What one file takes more than another.
+fn difference(less: &[u8], more: &[u8], lasting: Duration) -> Vec<f64> {
+    agreed(less, &CLOSE);
+    agreed(more, &CLOSE);
+    let both = [jobs(less, &CLOSE), jobs(more, &CLOSE)].concat();
+    let times = times(&both, lasting);
+    let (less, more) = times.split_at(CLOSE.len());
+    more.iter().zip(less).map(|(more, less)| more - less).collect()
 }
 
 /// A file with a byte left over is read to its end and then answered: its time is the reader's.
@@ -135,33 +145,22 @@ fn left_over(mut file: Vec<u8>) -> Vec<u8> {
 }
 
 pub fn reading(lasting: Duration) {
-    println!("| bytes | {} | {} |", LIBRARY.name, TUNED.name);
-    println!("|---|---|---|");
+    header(&["bytes"], &[""], &CLOSE);
     for bytes in [1000, 2000, 4000, 8000, 16_000, 32_000, 65_000] {
         let file = left_over(inputs::long(bytes));
-        assert_eq!(agreed(&file, [&LIBRARY, &TUNED]).number, 9);
-        let times = times(
-            [&LIBRARY, &TUNED].map(|version| Job {
-                file: &file,
-                version,
-            }),
-            lasting,
-        );
-        println!(
-            "| {} | {} us |",
-            file.len() - 1,
-            times.map(micros).join(" us | ")
-        );
+        assert_eq!(agreed(&file, &CLOSE).number, 9);
+        let times = times(&jobs(&file, &CLOSE), lasting);
+        println!("| {} | {} |", file.len() - 1, ratios(&times, micros));
     }
 }
 
 /// The time past reading, with a budget of no steps: who issued whom, and the judging of each certificate.
 pub fn issuing(lasting: Duration) {
-    println!(
-        "| certificates | roots | every signature holds: {} | {} | none holds: {} | {} |",
-        LIBRARY.name, TUNED.name, LIBRARY.name, TUNED.name
+    header(
+        &["certificates", "roots"],
+        &["every signature holds: ", "none holds: "],
+        &CLOSE,
     );
-    println!("|---|---|---|---|---|---|");
     for certificates in [4, 8, 16] {
         for roots in [1, 8, 32] {
             let taken = [true, false].map(|signed| {
@@ -171,12 +170,9 @@ pub fn issuing(lasting: Duration) {
                     signed,
                     budget: 0,
                 });
-                difference(&left_over(file.clone()), &file, lasting).map(micros)
+                ratios(&difference(&left_over(file.clone()), &file, lasting), micros)
             });
-            println!(
-                "| {certificates} | {roots} | {} us |",
-                taken.concat().join(" us | ")
-            );
+            println!("| {certificates} | {roots} | {} |", taken.join(" | "));
         }
     }
 }

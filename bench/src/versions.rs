@@ -20,6 +20,12 @@ pub const LIBRARY: Version = Version {
     search: library::search,
 };
 
+/// The object that BEFORE named, or the library once more.
+pub const BEFORE: Version = Version {
+    name: "before",
+    search: library::before,
+};
+
 pub const ORDINARY: Version = Version {
     name: "ordinary",
     search: |file, room| search(file, room, |question, _| ordinary::walk(question)),

@@ -81,7 +81,7 @@ module _ (s : List ℕ) (c : Card) (e : ℕ) (t : CardRead s c e) where
   verdicts-are = ap listOf (t .verdicts .are)
 
   pub root-stands : (i : ℕ) → i < c .roots .count → Stands s (recordOf (c .roots .count) (c .roots .records) i)
-  root-stands = record-stands 32 s _ _ _ (t .roots)
+  root-stands = record-stands 32 s _ _ _ (t .roots) (t .few)
 
   pub bundled-stands : (i : ℕ) → i < c .bundle .count → Stands s (recordOf (c .bundle .count) (c .bundle .records) i)
-  bundled-stands = record-stands 16 s _ _ _ (t .bundle)
+  bundled-stands = record-stands 16 s _ _ _ (t .bundle) (t .few)

@@ -11,8 +11,8 @@ use Rattle.card.proofs.Sections.{CardRead}
 module _ (s : List ℕ) (c : Card) (e : ℕ) (t : CardRead s c e) where
   pub two-roots : (i j : ℕ) → i < c .roots .count → j < c .roots .count
       → recordOf (c .roots .count) (c .roots .records) i ≡ recordOf (c .roots .count) (c .roots .records) j → i ≡ j
-  two-roots = two-places 32 s _ _ _ (t .roots)
+  two-roots = two-places 32 s _ _ _ (t .roots) (t .few)
 
   pub two-bundled : (i j : ℕ) → i < c .bundle .count → j < c .bundle .count
       → recordOf (c .bundle .count) (c .bundle .records) i ≡ recordOf (c .bundle .count) (c .bundle .records) j → i ≡ j
-  two-bundled = two-places 16 s _ _ _ (t .bundle)
+  two-bundled = two-places 16 s _ _ _ (t .bundle) (t .few)

@@ -1,5 +1,4 @@
 pub mod Nothing
-pub mod Onward
 pub mod Pinned
 pub mod Records
 pub mod Standing

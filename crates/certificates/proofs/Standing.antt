@@ -87,9 +87,9 @@ module _ (most : ℕ) (s : List ℕ) (count : ℕ) (records : List Record) (e : 
       let front = List·getD-append (t .front) (replicate (most - length (t .front)) fresh) fresh i within in
       rw (lt-ltb i count h) (ap (λ l. getD l i fresh) (t .placed) ∙ front)
 
-  pub record-stands : (i : ℕ) → i < count → Stands s (recordOf count records i)
-  record-stands i h =
+  pub record-stands : length s ≤ 65535 → (i : ℕ) → i < count → Stands s (recordOf count records i)
+  record-stands few i h =
       let within : i < length (t .front) = omega (arith, t .counted) in
       let n = many-nth recordP s fresh i (length (t .front)) (t .first) (t .front) e within (t .are) in
       let is : recordP s (n .place) ≡ got (recordOf count records i) (n .past) = n .is ∙ ap (λ r. got r (n .past)) (sym (record-of i h)) in
-      record { place = n .place; past = n .past; is = is; read = record-read s (n .place) (recordOf count records i) (n .past) is }
+      record { place = n .place; past = n .past; is = is; read = record-read s few (n .place) (recordOf count records i) (n .past) is }

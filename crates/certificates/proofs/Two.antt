@@ -1,7 +1,7 @@
 -- Two places stay two: of roots or a bundle that were read no two places hold the same record, since each record has its names at a
 -- place of its own (`two-places`). With equal bytes at root places 0 and 1 the certificates there are equal; the records are not, and
 -- the places are two. Assumes nothing.
-use Prim.Native.Nat.{ℕ, zero, suc, _<_}
+use Prim.Native.Nat.{ℕ, zero, suc, _+_, _<_, _≤_}
 use mathlib.Core.Path.{_≡_, refl, sym, ap, _∙_}
 use mathlib.Core.Bool.{Bool, true, false}
 use mathlib.Core.List.{List, _∷_}
@@ -11,15 +11,13 @@ use lib.ListN.{length, getD}
 use borrow.Author.Tests.{ltb-true, ltb-false}
 use Rattle.fields.specs.Fields.{Parsed, got, many}
 use Rattle.fields.proofs.After.{after-got, got-is}
-use Rattle.names.specs.Names.{nameP}
-use Rattle.extensions.specs.Extensions.{extensionsP}
-use Rattle.record.specs.Record.{headP, stringsP, namesP, recordP}
+use Rattle.record.specs.Record.{recordP}
 use Rattle.record.specs.Fresh.{fresh}
-use Rattle.record.specs.declared.parties.Names.{Names}
 use Rattle.record.specs.declared.Record.{Record}
 use Rattle.certificates.specs.Certificates.{recordOf}
 use Rattle.certificates.proofs.Standing.{RecordsRead, record-of}
-use Rattle.certificates.proofs.Onward.{name-onward, head-onward, strings-onward, extensions-onward}
+use Rattle.record.proofs.Onward.{name-onward, strings-onward, extensions-onward}
+use Rattle.record.proofs.Meaning.{record-read, record-begins}
 
 -- ---- things in a row, each with a mark of its own
 
@@ -77,35 +75,23 @@ module _ {A : Type 0} (p : List ℕ → ℕ → Parsed A) (s : List ℕ) (d : A)
 
 -- ---- a record's names
 
-names-inside : (s : List ℕ) (at : ℕ) (n : Names) (e : ℕ) → namesP s at ≡ got n e → (n .issuer ≡ at) × (at < e)
-unfolding namesP
-names-inside s at n e h =
-    let issuer = after-got (nameP s at) _ h in
-    let subject = after-got (nameP s (issuer .place)) _ (issuer .next) in
-    let first = name-onward s at .ends (issuer .value) (issuer .place) (issuer .first) in
-    let second = name-onward s (issuer .place) .ends (subject .value) (subject .place) (subject .first) in
-    got-is (λ (n : Names) e. (n .issuer ≡ at) × (at < e)) (subject .next) (refl, omega arith)
-
-record-inside : (s : List ℕ) (at : ℕ) (r : Record) (e : ℕ) → recordP s at ≡ got r e → Inside at (r .names .issuer) e
-unfolding recordP
-record-inside s at r e h =
-    let head = after-got (headP s at) _ h in
-    let strings = after-got (stringsP s (head .place)) _ (head .next) in
-    let names = after-got (namesP s (strings .place)) _ (strings .next) in
-    let extensions = after-got (extensionsP (head .value .flags) s (names .place)) _ (names .next) in
-    let a = head-onward s at .ends (head .value) (head .place) (head .first) in
-    let b = strings-onward s (head .place) .ends (strings .value) (strings .place) (strings .first) in
-    let c = names-inside s (strings .place) (names .value) (names .place) (names .first) in
-    let d = extensions-onward s (head .value .flags) (names .place) .ends (extensions .value) (extensions .place) (extensions .first) in
-    got-is (λ (r : Record) e. Inside at (r .names .issuer) e) (extensions .next) (record { past = omega arith; before = omega arith })
+record-inside : (s : List ℕ) → length s ≤ 65535 → (at : ℕ) (r : Record) (e : ℕ) → recordP s at ≡ got r e → Inside at (r .issuer) e
+record-inside s few at r e h =
+    let t = record-read s few at r e h in
+    let begins = record-begins s few at r e h in
+    let a = strings-onward s (r .start + 18) .ends (t .strings-are) (r .issuer) (t .strings) in
+    let b = name-onward s (r .issuer) .ends (t .issuer-name) (r .subject) (t .issuer) in
+    let c = name-onward s (r .subject) .ends (t .subject-name) (r .rest) (t .subject) in
+    let d = extensions-onward s (t .head-is .flags) (r .rest) .ends (t .extensions-are) e (t .extensions) in
+    record { past = omega arith; before = omega arith }
 
 -- ---- places
 
 module _ (most : ℕ) (s : List ℕ) (count : ℕ) (records : List Record) (e : ℕ) (t : RecordsRead most s count records e) where
-  pub two-places : (i j : ℕ) → i < count → j < count → recordOf count records i ≡ recordOf count records j → i ≡ j
-  two-places i j v w same =
+  pub two-places : length s ≤ 65535 → (i j : ℕ) → i < count → j < count → recordOf count records i ≡ recordOf count records j → i ≡ j
+  two-places few i j v w same =
       let there : i < length (t .front) = omega (arith, t .counted) in
       let here : j < length (t .front) = omega (arith, t .counted) in
       let read = sym (record-of most s count records e t i v) ∙ same ∙ record-of most s count records e t j w in
-      marks-apart recordP s fresh (λ r. r .names .issuer) (record-inside s) (length (t .front)) (t .first) (t .front) e (t .are) i j there here
-      (ap (λ (r : Record). r .names .issuer) read)
+      marks-apart recordP s fresh (λ r. r .issuer) (record-inside s few) (length (t .front)) (t .first) (t .front) e (t .are) i j there here
+      (ap (λ (r : Record). r .issuer) read)

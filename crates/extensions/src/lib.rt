@@ -42,7 +42,7 @@ pub enum ExtensionsAt {
     Stop(Fault),
 }
 
-enum KeyIdsAt {
+pub enum KeyIdsAt {
     Got { key_ids: KeyIds, next: usize },
     Stop(Fault),
 }
@@ -93,7 +93,7 @@ pub fn extensions_at(file: &[u8], at: usize, flags: usize) -> ExtensionsAt
 }
 
 // Authority key id by flag 1, authority serial by flag 2, subject key id by flag 4.
-fn key_ids_at(file: &[u8], at: usize, flags: usize) -> KeyIdsAt
+pub fn key_ids_at(file: &[u8], at: usize, flags: usize) -> KeyIdsAt
     ensures { λ r. ⌜ identified r ≡ keyIdsP flags (now (file .entry)) at ⌝ }
 {
     match option_at(file, at, flags % 2 == 1, KeyIds::KEY_ID_MOST) {

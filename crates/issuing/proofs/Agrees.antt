@@ -12,7 +12,9 @@ use borrow.Author.Tests.{ltb-true, ltb-false, le-ltb, le-leb}
 use Rattle.record.specs.Certificate.{certificateOf}
 use Rattle.record.specs.Fresh.{fresh}
 use Rattle.record.specs.declared.Record.{Record}
-use Rattle.record.proofs.Meaning.{says-issuer, says-subject}
+use Rattle.record.specs.Parts.{issuerSpan, subjectSpan}
+use Rattle.record.proofs.Meaning.{issuer-within, subject-within, says-issuer, says-subject}
+use Rattle.same.proofs.Spans.{spans-read}
 use Rattle.certificates.specs.Certificates.{recordOf, sizeOf}
 use Rattle.certificates.proofs.Standing.{Stands}
 use Rattle.card.specs.Content.{Content, Issuer, root, bundled, contentOf, certificateAt, there, signed}
@@ -32,7 +34,12 @@ pub likely-read : (s : List ℕ) (issuer subject : Record) → Stands s issuer �
     → likelyIssuedAt s issuer subject ≡ likelyIssued (certificateOf issuer s) (certificateOf subject s)
 unfolding likelyIssuedAt likelyIssued
 likely-read s issuer subject i j =
-    rw (j .read .names .issuer, i .read .names .subject, says-issuer s subject (j .past) (j .read), says-subject s issuer (i .past) (i .read))
+    rw (
+      spans-read true s (issuerSpan subject) (subjectSpan issuer) _ _ (j .read .issuer) (i .read .subject)
+          (issuer-within s subject (j .past) (j .read)) (subject-within s issuer (i .past) (i .read)),
+      says-issuer s subject (j .past) (j .read),
+      says-subject s issuer (i .past) (i .read),
+    )
 
 -- ---- two places
 

@@ -8,11 +8,14 @@ use mathlib.Core.List.{List}
 use native.Mathlib.Nat.{div-one}
 use lib.Dec.{eqb}
 use Rattle.fields.specs.Fields.{bytesOf}
-use Rattle.names.specs.Names.{nameP}
-use Rattle.same.specs.Same.{sameDn}
-use Rattle.same.specs.Answers.{bothRead}
+use Rattle.fields.specs.declared.string.Span.{Span}
+use Rattle.same.specs.Answers.{sameNames}
 use Rattle.keys.specs.AuthKeyId.{given, checkAuthKeyId}
 use Rattle.extensions.specs.Extensions.{flag}
+use Rattle.extensions.specs.declared.KeyIds.{KeyIds}
+use Rattle.record.specs.declared.head.Head.{Head}
+use Rattle.record.specs.declared.strings.Strings.{Strings}
+use Rattle.record.specs.Parts.{headOf, stringsOf, keyIdsOf, issuerSpan, subjectSpan}
 use Rattle.record.specs.Certificate.{certificateOf, present}
 use Rattle.record.specs.declared.Record.{Record}
 use Rattle.issuing.specs.Issued.{keysFit}
@@ -23,27 +26,33 @@ given-present true l = refl
 given-present false l = refl
 
 -- the parts that the code hands over are those of the two certificates
-pub keys-fit : (s : List ℕ) (issuer subject : Record) (akid aserial skid serial : List ℕ) (r : Bool)
+pub keys-fit : (s : List ℕ) (issuer subject : Record) (head named : Head) (ids own : KeyIds) (strings : Strings)
+    (akid aserial skid serial : List ℕ) (r : Bool)
+    → head ≡ headOf subject s → named ≡ headOf issuer s
+    → ids ≡ keyIdsOf (head .flags) subject s → own ≡ keyIdsOf (named .flags) issuer s → strings ≡ stringsOf issuer s
     → r
-    ≡ checkAuthKeyId (given (eqb (subject .head .flags % 2) 1) akid) (given (eqb (subject .head .flags / 2 % 2) 1) aserial)
-    (given (eqb (issuer .head .flags / 4 % 2) 1) skid) serial
-    → akid ≡ bytesOf (subject .extensions .«key_ids» .authority) s
-    → aserial ≡ bytesOf (subject .extensions .«key_ids» .«authority_serial») s
-    → skid ≡ bytesOf (issuer .extensions .«key_ids» .subject) s
-    → serial ≡ bytesOf (issuer .strings .serial) s
+    ≡ checkAuthKeyId (given (eqb (head .flags % 2) 1) akid) (given (eqb (head .flags / 2 % 2) 1) aserial)
+    (given (eqb (named .flags / 4 % 2) 1) skid) serial
+    → akid ≡ bytesOf (ids .authority) s → aserial ≡ bytesOf (ids .«authority_serial») s → skid ≡ bytesOf (own .subject) s
+    → serial ≡ bytesOf (strings .serial) s
     → r ≡ keysFit (certificateOf issuer s) (certificateOf subject s)
 unfolding keysFit certificateOf flag
-keys-fit s issuer subject akid aserial skid serial r h a b c d =
+keys-fit s issuer subject head named ids own strings akid aserial skid serial r f n i o t h a b c d =
     h
     ∙ rw (
       a,
       b,
       c,
       d,
+      i,
+      o,
+      t,
+      f,
+      n,
       div-one,
-      given-present (eqb (subject .head .flags % 2) 1),
-      given-present (eqb (subject .head .flags / 2 % 2) 1),
-      given-present (eqb (issuer .head .flags / 4 % 2) 1),
+      given-present (eqb (headOf subject s .flags % 2) 1),
+      given-present (eqb (headOf subject s .flags / 2 % 2) 1),
+      given-present (eqb (headOf issuer s .flags / 4 % 2) 1),
     )
 
 module _ (s : List ℕ) (issuer subject : Record) where
@@ -55,14 +64,14 @@ module _ (s : List ℕ) (issuer subject : Record) where
   after-no true b h = sym h
   after-no false b h = refl
 
-  pub likely-names : keysFit (certificateOf issuer s) (certificateOf subject s) ≡ true
-      → bothRead (sameDn true) (nameP s (subject .names .issuer)) (nameP s (issuer .names .subject)) ≡ likelyIssuedAt s issuer subject
+  pub likely-names : (a b : Span) (r : Bool) → keysFit (certificateOf issuer s) (certificateOf subject s) ≡ true
+      → a ≡ issuerSpan subject → b ≡ subjectSpan issuer → r ≡ sameNames true a b s → r ≡ likelyIssuedAt s issuer subject
   unfolding likelyIssuedAt
-  likely-names h = after-yes _ _ h
+  likely-names a b r h p q e = e ∙ rw (p, q) (after-yes _ _ h)
 
   pub likely-none : keysFit (certificateOf issuer s) (certificateOf subject s) ≡ false → false ≡ likelyIssuedAt s issuer subject
   unfolding likelyIssuedAt
-  likely-none h = after-no (bothRead (sameDn true) (nameP s (subject .names .issuer)) (nameP s (issuer .names .subject))) _ h
+  likely-none h = after-no (sameNames true (issuerSpan subject) (subjectSpan issuer) s) _ h
 
 -- ---- the verdict first
 

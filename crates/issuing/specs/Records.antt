@@ -3,9 +3,8 @@
 use Prim.Native.Nat.{ℕ}
 use mathlib.Core.Bool.{Bool, true, _&&_}
 use mathlib.Core.List.{List}
-use Rattle.names.specs.Names.{nameP}
-use Rattle.same.specs.Same.{sameDn}
-use Rattle.same.specs.Answers.{bothRead}
+use Rattle.same.specs.Answers.{sameNames}
+use Rattle.record.specs.Parts.{issuerSpan, subjectSpan}
 use Rattle.record.specs.Certificate.{certificateOf}
 use Rattle.record.specs.declared.Record.{Record}
 use Rattle.certificates.specs.Certificates.{recordOf, sizeOf}
@@ -18,8 +17,7 @@ use Rattle.issuing.specs.Issued.{keysFit}
 
 unfoldable pub likelyIssuedAt : List ℕ → Record → Record → Bool
 likelyIssuedAt s issuer subject =
-    bothRead (sameDn true) (nameP s (subject .names .issuer)) (nameP s (issuer .names .subject))
-    && keysFit (certificateOf issuer s) (certificateOf subject s)
+    sameNames true (issuerSpan subject) (subjectSpan issuer) s && keysFit (certificateOf issuer s) (certificateOf subject s)
 
 -- bundle place i issued bundle place j
 unfoldable pub bundleIssuedAt : List ℕ → Bundle → Verdicts → ℕ → ℕ → Bool

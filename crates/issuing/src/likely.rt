@@ -13,7 +13,7 @@ pub fn likely_issued(file: &[u8], issuer: Record, subject: Record) -> bool
     ensures { λ r. ⌜ r ≡ likelyIssuedAt (now (file .entry)) issuer subject ⌝ }
 {
     if keys_fit(file, issuer, subject) {
-        return same_names(file, subject.names.issuer, issuer.names.subject, true);
+        return same_names(file, subject.issuer_name(), issuer.subject_name(), true);
     }
     false
 }
@@ -22,15 +22,18 @@ pub fn likely_issued(file: &[u8], issuer: Record, subject: Record) -> bool
 fn keys_fit(file: &[u8], issuer: Record, subject: Record) -> bool
     ensures { λ r. ⌜ r ≡ keysFit (certificateOf issuer (now (file .entry))) (certificateOf subject (now (file .entry))) ⌝ }
 {
-    let authority = subject.extensions.key_ids;
-    let named = issuer.extensions.key_ids;
+    let flags = subject.head(file).flags;
+    let named = issuer.head(file).flags;
+    let authority = subject.key_ids(file, flags);
+    let own = issuer.key_ids(file, named);
+    let strings = issuer.strings(file);
     check_auth_key_id(
-        subject.head.flags % 2 == 1,
+        flags % 2 == 1,
         part(file, authority.authority),
-        subject.head.flags / 2 % 2 == 1,
+        flags / 2 % 2 == 1,
         part(file, authority.authority_serial),
-        issuer.head.flags / 4 % 2 == 1,
-        part(file, named.subject),
-        part(file, issuer.strings.serial),
+        named / 4 % 2 == 1,
+        part(file, own.subject),
+        part(file, strings.serial),
     )
 }

@@ -1,3 +1,4 @@
+pub mod Alike
 pub mod Attributes
 pub mod Judged
 pub mod Pinned

@@ -1,11 +1,14 @@
 -- What the tests of one certificate come to: what is asked of it between leaf and root, as the root and as the leaf, by the first test
 -- that fails, and the roots above by the leaf. Assumes nothing.
 use Prim.Native.Nat.{ℕ}
-use mathlib.Core.Bool.{Bool, true, false}
+use mathlib.Core.Bool.{Bool, true, false, _&&_}
 use mathlib.Core.List.{List}
 use mathlib.Core.Path.{_≡_, sym}
 use Rattle.fields.specs.Fields.{bytesOf}
 use Rattle.record.specs.Certificate.{Certificate, certificateOf}
+use Rattle.record.specs.Parts.{headOf, extensionsOf}
+use Rattle.record.specs.declared.head.Head.{Head}
+use Rattle.extensions.specs.declared.Extensions.{Extensions}
 use Rattle.record.specs.declared.Record.{Record}
 use Rattle.certificates.specs.Certificates.{recordOf}
 use Rattle.card.specs.declared.Card.{Card}
@@ -62,13 +65,10 @@ module _ (s : List ℕ) (time : ℕ) (host : List ℕ) (r : Record) where
       leaf-unhandled e = rw (dated, formed, e)
 
       module _ (told : handled (certificateOf r s) ≡ true) where
-        pub leaf-unserving : forServersAt s (r .extensions .usages) ≡ false → leafSoundAt s time host r ≡ false
+        pub leaf-asked : (head : Head) (x : Extensions) → head ≡ headOf r s → x ≡ extensionsOf (head .flags) r s
+            → leafSoundAt s time host r ≡ (forServersAt s (x .usages) && forHostAt s host (x .«dns_names»))
         unfolding leafSoundAt
-        leaf-unserving e = rw (dated, formed, told, e)
-
-        pub leaf-asked : forServersAt s (r .extensions .usages) ≡ true → leafSoundAt s time host r ≡ forHostAt s host (r .extensions .«dns_names»)
-        unfolding leafSoundAt
-        leaf-asked e = rw (dated, formed, told, e)
+        leaf-asked head x h q = rw (dated, formed, told, q, h)
 
 -- ---- the roots above
 

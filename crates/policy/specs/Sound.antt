@@ -5,6 +5,7 @@ use mathlib.Core.Bool.{Bool, cond, _&&_}
 use mathlib.Core.List.{List}
 use Rattle.fields.specs.Fields.{bytesOf}
 use Rattle.record.specs.Certificate.{Certificate, certificateOf}
+use Rattle.record.specs.Parts.{headOf, extensionsOf}
 use Rattle.record.specs.declared.Record.{Record}
 use Rattle.certificates.specs.Certificates.{recordOf, sizeOf}
 use Rattle.certificates.specs.declared.roots.Roots.{Roots}
@@ -29,8 +30,8 @@ leafSoundAt s time host r =
     inDate time (certificateOf r s)
     && wellFormed (certificateOf r s)
     && handled (certificateOf r s)
-    && forServersAt s (r .extensions .usages)
-    && forHostAt s host (r .extensions .«dns_names»)
+    && forServersAt s (extensionsOf (headOf r s .flags) r s .usages)
+    && forHostAt s host (extensionsOf (headOf r s .flags) r s .«dns_names»)
 
 -- ---- of a card's places
 

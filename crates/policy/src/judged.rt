@@ -3,7 +3,9 @@ use card::Bundle;
 use card::BundlePlace;
 use card::Card;
 use card::Roots;
+use extensions::Extensions;
 use fields::part;
+use record::Head;
 use record::Record;
 use rows::with;
 use rules::authority;
@@ -16,7 +18,11 @@ use rules::well_formed;
 ghost use mathlib.Core.List.{List};
 ghost use mathlib.Core.Path.{_≡_};
 ghost use Prim.Native.Nat.{ℕ};
+ghost use mathlib.Core.Bool.{_&&_};
 ghost use Rattle.record.specs.Certificate.{certificateOf};
+ghost use Rattle.record.specs.Parts.{headOf};
+ghost use Rattle.record.specs.declared.Record.{Record};
+ghost use Rattle.rules.specs.Records.{forServersAt, forHostAt};
 ghost use Rattle.policy.specs.Sound.{leafSoundAt, betweenSound, topSound, soundPlaces, placeLimits, soundRoots, rootLimits, rootsAbove};
 
 // The places of the bundle that may stand between leaf and root, and for each how many certificates its path length lets stand
@@ -45,7 +51,7 @@ pub fn judge(file: &[u8], time: u64, card: Card) -> Judged
     ensures { λ r. ⌜ r .above .limits ≡ rootLimits (now (file .entry)) (card .roots) ⌝ }
 {
     let between = places_between(file, time, card.bundle);
-    let above = roots_above(time, card.roots);
+    let above = roots_above(file, time, card.roots);
     if leaf_sound(
         file,
         time,
@@ -65,26 +71,35 @@ pub fn judge(file: &[u8], time: u64, card: Card) -> Judged
 fn leaf_sound(file: &[u8], time: u64, host: &[u8], leaf: Record) -> bool
     ensures { λ r. ⌜ r ≡ leafSoundAt (now (file .entry)) time (now (host .entry)) leaf ⌝ }
 {
-    if in_date(time, leaf) {
-        if well_formed(file, leaf) {
-            if handled(leaf) {
-                if for_servers(file, leaf.extensions.usages) {
-                    return for_host(file, host, leaf.extensions.dns_names);
-                }
+    let head = leaf.head(file);
+    if in_date(time, head) {
+        if well_formed(file, head, leaf) {
+            if handled(head) {
+                return leaf_serves(file, host, leaf.extensions(file, head.flags));
             }
         }
     }
     false
 }
 
-// What is asked of a certificate between leaf and root, its path length aside.
-fn between_sound(file: &[u8], time: u64, cert: Record) -> bool
-    ensures { λ r. ⌜ r ≡ betweenSound time (certificateOf cert (now (file .entry))) ⌝ }
+// What is asked of the leaf's lists.
+fn leaf_serves(file: &[u8], host: &[u8], extensions: Extensions) -> bool
+    ensures { λ r. ⌜ r ≡ (forServersAt (now (file .entry)) (extensions .usages) && forHostAt (now (file .entry)) (now (host .entry)) (extensions .«dns_names»)) ⌝ }
 {
-    if in_date(time, cert) {
-        if well_formed(file, cert) {
-            if handled(cert) {
-                return authority(cert);
+    if for_servers(file, extensions.usages) {
+        return for_host(file, host, extensions.dns_names);
+    }
+    false
+}
+
+// What is asked of a certificate between leaf and root, its path length aside.
+fn between_sound(file: &[u8], time: u64, head: Head, cert: Record) -> bool
+    ensures { λ r. ⌜ (head ≡ headOf cert (now (file .entry)) → r ≡ betweenSound time (certificateOf cert (now (file .entry)))) ⌝ }
+{
+    if in_date(time, head) {
+        if well_formed(file, head, cert) {
+            if handled(head) {
+                return authority(head);
             }
         }
     }
@@ -92,12 +107,12 @@ fn between_sound(file: &[u8], time: u64, cert: Record) -> bool
 }
 
 // What is asked of a root, its path length aside.
-fn top_sound(time: u64, root: Record) -> bool
-    ensures { λ r. ⌜ ((s : List ℕ) → r ≡ topSound time (certificateOf root s)) ⌝ }
+fn top_sound(time: u64, head: Head) -> bool
+    ensures { λ r. ⌜ ((cert : Record) (s : List ℕ) → head ≡ headOf cert s → r ≡ topSound time (certificateOf cert s)) ⌝ }
 {
-    if in_date(time, root) {
-        if handled(root) {
-            return authority(root);
+    if in_date(time, head) {
+        if handled(head) {
+            return authority(head);
         }
     }
     false
@@ -113,8 +128,9 @@ fn places_between(file: &[u8], time: u64, bundle: Bundle) -> Between
     let mut i: u8 = 0;
     while i < n {
         let record = bundle.records[i as usize];
-        limits[i as usize] = limit(record);
-        if between_sound(file, time, record) {
+        let head = record.head(file);
+        limits[i as usize] = limit(file, head, record);
+        if between_sound(file, time, head, record) {
             sound = with(sound, i);
         }
         i += 1;
@@ -122,8 +138,8 @@ fn places_between(file: &[u8], time: u64, bundle: Bundle) -> Between
     Between { sound, limits }
 }
 
-fn roots_above(time: u64, roots: Roots) -> Above
-    ensures { λ r. ⌜ ((s : List ℕ) → (r .sound ≡ soundRoots s time roots) × (r .limits ≡ rootLimits s roots)) ⌝ }
+fn roots_above(file: &[u8], time: u64, roots: Roots) -> Above
+    ensures { λ r. ⌜ (r .sound ≡ soundRoots (now (file .entry)) time roots) × (r .limits ≡ rootLimits (now (file .entry)) roots) ⌝ }
 {
     let n = roots.size();
     let mut sound: u64 = 0;
@@ -131,8 +147,9 @@ fn roots_above(time: u64, roots: Roots) -> Above
     let mut i: u8 = 0;
     while i < n {
         let record = roots.records[i as usize];
-        limits[i as usize] = limit(record);
-        if top_sound(time, record) {
+        let head = record.head(file);
+        limits[i as usize] = limit(file, head, record);
+        if top_sound(time, head) {
             sound = with(sound, i);
         }
         i += 1;

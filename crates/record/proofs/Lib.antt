@@ -1,3 +1,4 @@
+pub mod Onward
 pub mod Flags
 pub mod Frauds
 pub mod Items

@@ -1,22 +1,31 @@
 -- What a record that was read says: the limits of its parts, the names and lists that stand at its places, and the certificate.
 -- One record of facts for each group of parts. Assumes nothing.
-use Prim.Native.Nat.{ℕ, _≤_}
-use mathlib.Core.Path.{_≡_, ap}
+use Prim.Native.Nat.{ℕ, _+_, _<_, _≤_}
+use mathlib.Core.Path.{_≡_, refl, sym, ap, _∙_}
 use mathlib.Core.Bool.{true}
 use mathlib.Core.List.{List}
-use Rattle.fields.specs.Fields.{got, spanP, byteP}
+use native.Mathlib.Nat.{mod-eq-of-lt}
+use native.Mathlib.Omega.{arith}
+use lib.Dec.{leb}
+use lib.ListN.{length}
+use Rattle.fields.specs.Fields.{got, spanP, byteP, bigP, countP, countedP, many}
 use Rattle.fields.proofs.After.{after-got, judged-got, got-is}
-use Rattle.fields.proofs.Counts.{byte-few}
+use Rattle.fields.proofs.Counts.{byte-few, count-read}
 use Rattle.fields.proofs.Strings.{SpanRead, span-read}
 use Rattle.names.specs.Names.{Attr, nameP}
-use Rattle.extensions.specs.Extensions.{extensionsP}
+use Rattle.lists.specs.Lists.{usageP, dnsNameP, usagesP, rowP}
+use Rattle.extensions.specs.Extensions.{keyIdsP, pathLengthP, extensionsP}
+use Rattle.extensions.specs.declared.Extensions.{Extensions}
 use Rattle.extensions.proofs.Meaning.{ExtensionsRead, extensions-read}
-use Rattle.record.specs.Record.{paired, flagsP, datesP, headP, stringsP, namesP, recordP}
+use Rattle.record.specs.Record.{paired, flagsP, datesP, headP, stringsP, namesP, placeOf, placed, recordP}
+use Rattle.record.specs.Fresh.{no-head, no-strings, no-extensions}
+use Rattle.record.specs.Parts.{valueOr, headOf, stringsOf, extensionsOf}
 use Rattle.record.specs.Certificate.{certificateOf, listOf}
 use Rattle.record.specs.declared.head.Head.{Head}
 use Rattle.record.specs.declared.strings.Strings.{Strings}
 use Rattle.record.specs.declared.parties.Names.{Names}
 use Rattle.record.specs.declared.Record.{Record}
+use Rattle.record.proofs.Onward.{key-ids-onward, path-length-onward}
 
 -- ---- version and flags
 
@@ -70,72 +79,171 @@ strings-read s at p e h =
       inner = span-read 1 32 s _ _ _ (inner .first);
     })
 
--- ---- names
+-- ---- where the parts stand
 
-pub record NamesRead (s : List ℕ) (n : Names) (e : ℕ) : Type 0 where
-  pub issuer-name : List (List Attr)
-  pub subject-name : List (List Attr)
-  pub issuer : nameP s (n .issuer) ≡ got issuer-name (n .subject)
-  pub subject : nameP s (n .subject) ≡ got subject-name e
+byte-ends : (s : List ℕ) (at n e : ℕ) → byteP s at ≡ got n e → (at < length s) × (e ≡ at + 1)
+unfolding byteP
+byte-ends s at n e h = let r = count-read 0 255 s at n e h in (r .there, r .past)
 
-names-read : (s : List ℕ) (at : ℕ) (n : Names) (e : ℕ) → namesP s at ≡ got n e → NamesRead s n e
-unfolding namesP
-names-read s at n e h =
-    let issuer = after-got (nameP s at) _ h in
-    let subject = after-got (nameP s (issuer .place)) _ (issuer .next) in
-    got-is (NamesRead s) (subject .next)
-    (record {
-      issuer-name = issuer .value;
-      subject-name = subject .value;
-      issuer = issuer .first;
-      subject = subject .first;
-    })
+big-ends : (width : ℕ) (s : List ℕ) (at n e : ℕ) → bigP width s at ≡ got n e → e ≡ at + width
+unfolding bigP
+big-ends width s at n e h = got-is (λ _ e. e ≡ at + width) (judged-got (leb (at + width) (length s)) _ 6 h .1) refl
+
+flags-ends : (s : List ℕ) (at : ℕ) (v : ℕ × ℕ) (e : ℕ) → flagsP s at ≡ got v e → (at < length s) × (e ≡ at + 2)
+unfolding flagsP
+flags-ends s at v e h =
+    let version = after-got (byteP s at) _ h in
+    let flags = after-got (byteP s (version .place)) _ (version .next) in
+    let judged = judged-got (paired (flags .value)) _ 8 (flags .next) .1 in
+    let x = byte-ends s at _ _ (version .first) in
+    let y = byte-ends s (version .place) _ _ (flags .first) in
+    got-is (λ _ e. (at < length s) × (e ≡ at + 2)) judged (x .0, omega (arith, x .1, y .1))
+
+dates-ends : (s : List ℕ) (at : ℕ) (v : ℕ × ℕ) (e : ℕ) → datesP s at ≡ got v e → e ≡ at + 16
+unfolding datesP
+dates-ends s at v e h =
+    let before = after-got (bigP 8 s at) _ h in
+    let last = after-got (bigP 8 s (before .place)) _ (before .next) in
+    got-is (λ _ e. e ≡ at + 16) (last .next)
+    (omega (arith, big-ends 8 s at _ _ (before .first), big-ends 8 s (before .place) _ _ (last .first)))
+
+head-ends : (s : List ℕ) (at : ℕ) (h : Head) (e : ℕ) → headP s at ≡ got h e → (at < length s) × (e ≡ at + 18)
+unfolding headP
+head-ends s at h e r =
+    let flags = after-got (flagsP s at) _ r in
+    let dates = after-got (datesP s (flags .place)) _ (flags .next) in
+    let x = flags-ends s at _ _ (flags .first) in
+    got-is (λ _ e. (at < length s) × (e ≡ at + 18)) (dates .next)
+    (x .0, omega (arith, x .1, dates-ends s (flags .place) _ _ (dates .first)))
+
+name-there : (s : List ℕ) (at : ℕ) (n : List (List Attr)) (e : ℕ) → nameP s at ≡ got n e → at < length s
+unfolding nameP countedP
+name-there s at n e h =
+    let count = after-got (countP 0 16 s at) _ h in
+    count-read 0 16 s at (count .value) (count .place) (count .first) .there
+
+-- what is behind the names begins within the file, since its lists do
+extensions-there : (flags : ℕ) (s : List ℕ) (at : ℕ) (x : Extensions) (e : ℕ) → extensionsP flags s at ≡ got x e → at < length s
+unfolding extensionsP rowP
+extensions-there flags s at x e h =
+    let keys = after-got (keyIdsP flags s at) _ h in
+    let path = after-got (pathLengthP flags s (keys .place)) _ (keys .next) in
+    let usages = after-got (usagesP s (path .place)) _ (path .next) in
+    let count = after-got (countP 0 8 s (path .place)) _ (usages .first) in
+    let there = count-read 0 8 s (path .place) (count .value) (count .place) (count .first) .there in
+    omega (arith, key-ids-onward s flags at .ends _ _ (keys .first), path-length-onward s flags (keys .place) .ends _ _ (path .first))
 
 -- ---- the whole
 
+-- a record was read: what stands at its places, and e is the place past it
 pub record RecordRead (s : List ℕ) (r : Record) (e : ℕ) : Type 0 where
-  pub strings-at : ℕ
-  pub names-at : ℕ
-  pub extensions-at : ℕ
-  pub head : FlagsRead (r .head .version) (r .head .flags)
-  pub strings : StringsRead s strings-at (r .strings) names-at
-  pub names : NamesRead s (r .names) extensions-at
-  pub extensions : ExtensionsRead (r .head .flags) s extensions-at (r .extensions) e
+  pub head-is : Head
+  pub strings-are : Strings
+  pub issuer-name : List (List Attr)
+  pub subject-name : List (List Attr)
+  pub extensions-are : Extensions
+  pub head : headP s (r .start) ≡ got head-is (r .start + 18)
+  pub strings : stringsP s (r .start + 18) ≡ got strings-are (r .issuer)
+  pub issuer : nameP s (r .issuer) ≡ got issuer-name (r .subject)
+  pub subject : nameP s (r .subject) ≡ got subject-name (r .rest)
+  pub extensions : extensionsP (head-is .flags) s (r .rest) ≡ got extensions-are e
 
-module _ (s : List ℕ) (at : ℕ) (r : Record) (e : ℕ) (h : recordP s at ≡ got r e) where
-  pub record-read : RecordRead s r e
-  unfolding recordP
-  record-read =
+-- a place of a file that is not too long stays as it is
+stays : (s : List ℕ) (at : ℕ) → length s ≤ 65535 → at < length s → placeOf at ≡ at
+stays s at l h = mod-eq-of-lt (omega arith)
+
+module _ (s : List ℕ) (few : length s ≤ 65535) where
+  placed-read : (at f g k e : ℕ) (h : Head) (t : Strings) (i j : List (List Attr)) (x : Extensions)
+      → headP s at ≡ got h (at + 18) → stringsP s (at + 18) ≡ got t f → nameP s f ≡ got i g → nameP s g ≡ got j k
+      → extensionsP (h .flags) s k ≡ got x e → RecordRead s (placed at f g k) e
+  placed-read at f g k e h t i j x head strings issuer subject extensions =
+      let a = stays s at few (head-ends s at h (at + 18) head .0) in
+      let b = stays s f few (name-there s f i g issuer) in
+      let c = stays s g few (name-there s g j k subject) in
+      let d = stays s k few (extensions-there (h .flags) s k x e extensions) in
+      record {
+        head-is = h;
+        strings-are = t;
+        issuer-name = i;
+        subject-name = j;
+        extensions-are = x;
+        head = rw a head;
+        strings = rw (a, b) strings;
+        issuer = rw (b, c) issuer;
+        subject = rw (c, d) subject;
+        extensions = rw d extensions;
+      }
+
+  pub record-read : (at : ℕ) (r : Record) (e : ℕ) → recordP s at ≡ got r e → RecordRead s r e
+  unfolding recordP namesP
+  record-read at r e h =
       let head = after-got (headP s at) _ h in
       let strings = after-got (stringsP s (head .place)) _ (head .next) in
       let names = after-got (namesP s (strings .place)) _ (strings .next) in
       let extensions = after-got (extensionsP (head .value .flags) s (names .place)) _ (names .next) in
+      let issuer = after-got (nameP s (strings .place)) _ (names .first) in
+      let subject = after-got (nameP s (issuer .place)) _ (issuer .next) in
+      let ends = head-ends s at _ _ (head .first) .1 in
       got-is (RecordRead s) (extensions .next)
-      (record {
-        strings-at = head .place;
-        names-at = strings .place;
-        extensions-at = names .place;
-        head = head-read s at _ _ (head .first);
-        strings = strings-read s _ _ _ (strings .first);
-        names = names-read s _ _ _ (names .first);
-        extensions = extensions-read _ s _ _ _ (extensions .first);
-      })
+      (got-is
+      (λ (n : Names) (g : ℕ). extensionsP (head .value .flags) s g ≡ got (extensions .value) (extensions .place)
+      → RecordRead s (placed at (n .issuer) (n .subject) g) (extensions .place))
+      (subject .next)
+      (placed-read at (strings .place) (issuer .place) (subject .place) (extensions .place) (head .value) (strings .value)
+      (issuer .value) (subject .value) (extensions .value)
+      (head .first ∙ ap (got (head .value)) ends) (ap (stringsP s) (sym ends) ∙ strings .first) (issuer .first) (subject .first))
+      (extensions .first))
 
--- ---- what the certificate says of the names and lists
+  pub record-begins : (at : ℕ) (r : Record) (e : ℕ) → recordP s at ≡ got r e → r .start ≡ at
+  unfolding recordP
+  record-begins at r e h =
+      let head = after-got (headP s at) _ h in
+      let strings = after-got (stringsP s (head .place)) _ (head .next) in
+      let names = after-got (namesP s (strings .place)) _ (strings .next) in
+      let extensions = after-got (extensionsP (head .value .flags) s (names .place)) _ (names .next) in
+      got-is (λ (r : Record) _. r .start ≡ at) (extensions .next) (stays s at few (head-ends s at _ _ (head .first) .0))
+
+-- ---- what stands at the places of a record that was read, and what its certificate says
 
 module _ (s : List ℕ) (r : Record) (e : ℕ) (t : RecordRead s r e) where
-  pub says-issuer : certificateOf r s .issuer ≡ t .names .issuer-name
-  unfolding certificateOf
-  says-issuer = ap listOf (t .names .issuer)
+  pub head-of : headOf r s ≡ t .head-is
+  unfolding headOf
+  head-of = ap (valueOr no-head) (t .head)
 
-  pub says-subject : certificateOf r s .subject ≡ t .names .subject-name
-  unfolding certificateOf
-  says-subject = ap listOf (t .names .subject)
+  pub strings-of : stringsOf r s ≡ t .strings-are
+  unfolding stringsOf
+  strings-of = ap (valueOr no-strings) (t .strings)
 
-  pub says-usages : certificateOf r s .usages ≡ t .extensions .usages .things
-  unfolding certificateOf
-  says-usages = ap listOf (t .extensions .usages .are)
+  pub extensions-of : extensionsOf (headOf r s .flags) r s ≡ t .extensions-are
+  unfolding extensionsOf
+  extensions-of = ap (λ (h : Head). valueOr no-extensions (extensionsP (h .flags) s (r .rest))) head-of ∙ ap (valueOr no-extensions) (t .extensions)
 
-  pub says-dns-names : certificateOf r s .dns-names ≡ t .extensions .dns-names .things
+  pub extensions-read-of : ExtensionsRead (t .head-is .flags) s (r .rest) (t .extensions-are) e
+  extensions-read-of = extensions-read _ s _ _ _ (t .extensions)
+
+  -- both names end within the file
+  pub issuer-within : r .subject ≤ length s
+  issuer-within = omega (arith, name-there s (r .subject) _ _ (t .subject))
+
+  pub subject-within : r .rest ≤ length s
+  subject-within = omega (arith, extensions-there (t .head-is .flags) s (r .rest) _ _ (t .extensions))
+
+  pub says-issuer : certificateOf r s .issuer ≡ t .issuer-name
   unfolding certificateOf
-  says-dns-names = ap listOf (t .extensions .dns-names .are)
+  says-issuer = ap listOf (t .issuer)
+
+  pub says-subject : certificateOf r s .subject ≡ t .subject-name
+  unfolding certificateOf
+  says-subject = ap listOf (t .subject)
+
+  pub says-usages : certificateOf r s .usages ≡ extensions-read-of .usages .things
+  unfolding certificateOf
+  says-usages =
+      ap (λ (x : Extensions). listOf (many usageP (x .usages .count) s (x .usages .first))) extensions-of
+      ∙ ap listOf (extensions-read-of .usages .are)
+
+  pub says-dns-names : certificateOf r s .dns-names ≡ extensions-read-of .dns-names .things
+  unfolding certificateOf
+  says-dns-names =
+      ap (λ (x : Extensions). listOf (many dnsNameP (x .«dns_names» .count) s (x .«dns_names» .first))) extensions-of
+      ∙ ap listOf (extensions-read-of .dns-names .are)

@@ -7,6 +7,7 @@ use Rattle.fields.specs.Fields.{Parsed, got, stop, many, bytesOf}
 use Rattle.names.specs.Names.{Attr, nameP}
 use Rattle.lists.specs.Lists.{usageP, dnsNameP}
 use Rattle.extensions.specs.Extensions.{flag}
+use Rattle.record.specs.Parts.{headOf, stringsOf, keyIdsOf, extensionsOf}
 use Rattle.record.specs.declared.Record.{Record}
 
 pub record Certificate : Type 0 where
@@ -35,23 +36,27 @@ listOf (stop r) = []
 abbrev pub present : {A : Type 0} → Bool → A → Option A
 present b a = cond b (some a) none
 
--- what a record's numbers and places say over a file, whatever they are
+-- what a record's places say over a file, whatever they are
 unfoldable pub certificateOf : Record → List ℕ → Certificate
 certificateOf r s =
+    let head = headOf r s in
+    let strings = stringsOf r s in
+    let keyIds = keyIdsOf (head .flags) r s in
+    let rest = extensionsOf (head .flags) r s in
     record {
-      version = r .head .version;
-      flags = r .head .flags;
-      not-before = r .head .«not_before»;
-      not-after = r .head .«not_after»;
-      serial = bytesOf (r .strings .serial) s;
-      outer = bytesOf (r .strings .outer) s;
-      inner = bytesOf (r .strings .inner) s;
-      issuer = listOf (nameP s (r .names .issuer));
-      subject = listOf (nameP s (r .names .subject));
-      authority-key-id = present (flag 1 (r .head .flags)) (bytesOf (r .extensions .«key_ids» .authority) s);
-      authority-serial = present (flag 2 (r .head .flags)) (bytesOf (r .extensions .«key_ids» .«authority_serial») s);
-      subject-key-id = present (flag 4 (r .head .flags)) (bytesOf (r .extensions .«key_ids» .subject) s);
-      path-length = present (flag 16 (r .head .flags)) (r .extensions .«path_length»);
-      usages = listOf (many usageP (r .extensions .usages .count) s (r .extensions .usages .first));
-      dns-names = listOf (many dnsNameP (r .extensions .«dns_names» .count) s (r .extensions .«dns_names» .first));
+      version = head .version;
+      flags = head .flags;
+      not-before = head .«not_before»;
+      not-after = head .«not_after»;
+      serial = bytesOf (strings .serial) s;
+      outer = bytesOf (strings .outer) s;
+      inner = bytesOf (strings .inner) s;
+      issuer = listOf (nameP s (r .issuer));
+      subject = listOf (nameP s (r .subject));
+      authority-key-id = present (flag 1 (head .flags)) (bytesOf (keyIds .authority) s);
+      authority-serial = present (flag 2 (head .flags)) (bytesOf (keyIds .«authority_serial») s);
+      subject-key-id = present (flag 4 (head .flags)) (bytesOf (keyIds .subject) s);
+      path-length = present (flag 16 (head .flags)) (rest .«path_length»);
+      usages = listOf (many usageP (rest .usages .count) s (rest .usages .first));
+      dns-names = listOf (many dnsNameP (rest .«dns_names» .count) s (rest .«dns_names» .first));
     }

@@ -1,23 +1,27 @@
--- The record that stands where none was read. Assumes nothing.
+-- What stands where nothing was read. Assumes nothing.
 use Rattle.lists.specs.declared.Row.{Row}
 use Rattle.extensions.specs.Extensions.{nowhere}
+use Rattle.extensions.specs.declared.KeyIds.{KeyIds}
+use Rattle.extensions.specs.declared.Extensions.{Extensions}
+use Rattle.record.specs.declared.head.Head.{Head}
+use Rattle.record.specs.declared.strings.Strings.{Strings}
 use Rattle.record.specs.declared.Record.{Record}
+
+-- nothing but zeros
+abbrev pub fresh : Record
+fresh = record { start = 0; issuer = 0; subject = 0; rest = 0 }
+
+abbrev pub no-head : Head
+no-head = record { version = 0; flags = 0; «not_before» = 0; «not_after» = 0 }
+
+abbrev pub no-strings : Strings
+no-strings = record { serial = nowhere; outer = nowhere; inner = nowhere }
+
+abbrev pub no-key-ids : KeyIds
+no-key-ids = record { authority = nowhere; «authority_serial» = nowhere; subject = nowhere }
 
 abbrev pub none-listed : Row
 none-listed = record { count = 0; first = 0 }
 
--- nothing but zeros
-abbrev pub fresh : Record
-fresh =
-    record {
-      head = record { version = 0; flags = 0; «not_before» = 0; «not_after» = 0 };
-      strings = record { serial = nowhere; outer = nowhere; inner = nowhere };
-      names = record { issuer = 0; subject = 0 };
-      extensions =
-          record {
-            «key_ids» = record { authority = nowhere; «authority_serial» = nowhere; subject = nowhere };
-            «path_length» = 0;
-            usages = none-listed;
-            «dns_names» = none-listed;
-          };
-    }
+abbrev pub no-extensions : Extensions
+no-extensions = record { «key_ids» = no-key-ids; «path_length» = 0; usages = none-listed; «dns_names» = none-listed }

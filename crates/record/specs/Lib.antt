@@ -1,4 +1,5 @@
 pub mod Record
 pub mod Fresh
+pub mod Parts
 pub mod Certificate
 pub mod Answers

@@ -1,6 +1,6 @@
 -- A record as it stands in a card file: its parts in their order, each with its limits, judged from left to right. What is found are
 -- numbers and the places of strings, names and lists (docs/CARD-FILE.md, "Record"). Assumes nothing.
-use Prim.Native.Nat.{ℕ}
+use Prim.Native.Nat.{ℕ, _%_}
 use mathlib.Core.Bool.{Bool, cond, _&&_, _||_, not}
 use mathlib.Core.List.{List}
 use Rattle.fields.specs.Fields.{Parsed, got, stop, after, byteP, spanP, bigP}
@@ -54,10 +54,19 @@ namesP s at =
     after (nameP s e) (λ _ f.
     got (record { issuer = at; subject = e }) f))
 
+-- a place as a record holds it: every place of a card file fits
+abbrev pub placeOf : ℕ → ℕ
+placeOf at = at % 65536
+
+abbrev pub placed : ℕ → ℕ → ℕ → ℕ → Record
+placed start issuer subject rest =
+    record { start = placeOf start; issuer = placeOf issuer; subject = placeOf subject; rest = placeOf rest }
+
+-- where a record's parts stand; each part is judged when it is read
 unfoldable pub recordP : List ℕ → ℕ → Parsed Record
 recordP s at =
     after (headP s at) (λ head e.
-    after (stringsP s e) (λ strings f.
+    after (stringsP s e) (λ _ f.
     after (namesP s f) (λ names g.
-    after (extensionsP (head .flags) s g) (λ extensions h.
-    got (record { head = head; strings = strings; names = names; extensions = extensions }) h))))
+    after (extensionsP (head .flags) s g) (λ _ h.
+    got (placed at (names .issuer) (names .subject) g) h))))

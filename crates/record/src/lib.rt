@@ -1,5 +1,6 @@
-// A certificate's record in a card file: the type with its limits, and the reader. A record that was read is numbers and places in
-// the file; nothing is copied out of it. What a file of records means is left to the crate above.
+// A certificate's record as it stands in a card file: its parts in their order, each with its limits, and the reader. A record that was
+// read is four places in the file; what stands there is read again where it is asked for. What a file of records means is left to
+// the crate above.
 mod head;
 mod parties;
 mod strings;
@@ -7,7 +8,9 @@ mod strings;
 use extensions::Extensions;
 use extensions::ExtensionsAt;
 use extensions::KeyIds;
+use extensions::KeyIdsAt;
 use extensions::extensions_at;
+use extensions::key_ids_at;
 use fields::Fault;
 use fields::Span;
 pub use head::Head;
@@ -22,15 +25,16 @@ use strings::StringsAt;
 use strings::strings_at;
 ghost use mathlib.Core.Path.{_≡_};
 ghost use Rattle.record.specs.Fresh.{fresh};
-ghost use Rattle.record.specs.Record.{recordP};
+ghost use Rattle.record.specs.Record.{placed, recordP};
+ghost use Rattle.record.specs.Parts.{headOf, stringsOf, keyIdsOf, extensionsOf, issuerSpan, subjectSpan};
 ghost use Rattle.record.specs.Answers.{recorded};
 
-// A record that was read.
+// A record that was read: where it starts, where its two names start, and where what is behind them starts.
 pub struct Record {
-    pub head: Head,
-    pub strings: Strings,
-    pub names: Names,
-    pub extensions: Extensions,
+    pub start: u16,
+    pub issuer: u16,
+    pub subject: u16,
+    pub rest: u16,
 }
 
 impl Record {
@@ -42,38 +46,135 @@ impl Record {
 
     pub const ALGORITHM_MOST: usize = 32;
 
+    // The bytes of a head.
+    pub const HEAD: usize = 18;
+
     // The record that stands where none was read: nothing but zeros.
     pub fn new() -> Record
         ensures { λ r. ⌜ r ≡ fresh ⌝ }
     {
-        let nowhere = Span { start: 0, end: 0 };
-        let none = Row { count: 0, first: 0 };
         Record {
-            head: Head {
-                version: 0,
-                flags: 0,
-                not_before: 0,
-                not_after: 0,
-            },
-            strings: Strings {
-                serial: nowhere,
-                outer: nowhere,
-                inner: nowhere,
-            },
-            names: Names {
-                issuer: 0,
-                subject: 0,
-            },
-            extensions: Extensions {
-                key_ids: KeyIds {
+            start: 0,
+            issuer: 0,
+            subject: 0,
+            rest: 0,
+        }
+    }
+
+    // A record by its places. No card file has so many bytes that a place wraps.
+    fn placed(start: usize, issuer: usize, subject: usize, rest: usize) -> Record
+        ensures { λ r. ⌜ r ≡ placed start issuer subject rest ⌝ }
+    {
+        Record {
+            start: (start % 65536) as u16,
+            issuer: (issuer % 65536) as u16,
+            subject: (subject % 65536) as u16,
+            rest: (rest % 65536) as u16,
+        }
+    }
+
+    // Version, flags and dates; zeros where they can't be read.
+    pub fn head(self, file: &[u8]) -> Head
+        ensures { λ r. ⌜ r ≡ headOf self (now (file .entry)) ⌝ }
+    {
+        match head_at(file, self.start as usize) {
+            HeadAt::Got { head, next: _ } => {
+                return head;
+            }
+            HeadAt::Stop(_) => {
+                return Head {
+                    version: 0,
+                    flags: 0,
+                    not_before: 0,
+                    not_after: 0,
+                };
+            }
+        }
+    }
+
+    // Serial and algorithms; nowhere where they can't be read.
+    pub fn strings(self, file: &[u8]) -> Strings
+        ensures { λ r. ⌜ r ≡ stringsOf self (now (file .entry)) ⌝ }
+    {
+        match strings_at(file, self.start as usize + Record::HEAD) {
+            StringsAt::Got { strings, next: _ } => {
+                return strings;
+            }
+            StringsAt::Stop(_) => {
+                let nowhere = Span { start: 0, end: 0 };
+                return Strings {
+                    serial: nowhere,
+                    outer: nowhere,
+                    inner: nowhere,
+                };
+            }
+        }
+    }
+
+    // Where the issuer's name stands.
+    pub fn issuer_name(self) -> Span
+        ensures { λ r. ⌜ r ≡ issuerSpan self ⌝ }
+    {
+        Span {
+            start: self.issuer as usize,
+            end: self.subject as usize,
+        }
+    }
+
+    // Where the subject's name stands.
+    pub fn subject_name(self) -> Span
+        ensures { λ r. ⌜ r ≡ subjectSpan self ⌝ }
+    {
+        Span {
+            start: self.subject as usize,
+            end: self.rest as usize,
+        }
+    }
+
+    // Key ids, by the flags of the record's head; nowhere where they can't be read.
+    pub fn key_ids(self, file: &[u8], flags: usize) -> KeyIds
+        ensures { λ r. ⌜ r ≡ keyIdsOf flags self (now (file .entry)) ⌝ }
+    {
+        match key_ids_at(file, self.rest as usize, flags) {
+            KeyIdsAt::Got { key_ids, next: _ } => {
+                return key_ids;
+            }
+            KeyIdsAt::Stop(_) => {
+                let nowhere = Span { start: 0, end: 0 };
+                return KeyIds {
                     authority: nowhere,
                     authority_serial: nowhere,
                     subject: nowhere,
-                },
-                path_length: 0,
-                usages: none,
-                dns_names: none,
-            },
+                };
+            }
+        }
+    }
+
+    // All that stands behind the names, by the flags of the record's head; nothing where it can't be read.
+    pub fn extensions(self, file: &[u8], flags: usize) -> Extensions
+        ensures { λ r. ⌜ r ≡ extensionsOf flags self (now (file .entry)) ⌝ }
+    {
+        match extensions_at(file, self.rest as usize, flags) {
+            ExtensionsAt::Got {
+                extensions,
+                next: _,
+            } => {
+                return extensions;
+            }
+            ExtensionsAt::Stop(_) => {
+                let nowhere = Span { start: 0, end: 0 };
+                let none = Row { count: 0, first: 0 };
+                return Extensions {
+                    key_ids: KeyIds {
+                        authority: nowhere,
+                        authority_serial: nowhere,
+                        subject: nowhere,
+                    },
+                    path_length: 0,
+                    usages: none,
+                    dns_names: none,
+                };
+            }
         }
     }
 }
@@ -89,16 +190,17 @@ pub fn record_at(file: &[u8], at: usize) -> RecordAt
 {
     match head_at(file, at) {
         HeadAt::Got { head, next: a } => match strings_at(file, a) {
-            StringsAt::Got { strings, next: b } => match names_at(file, b) {
+            StringsAt::Got {
+                strings: _,
+                next: b,
+            } => match names_at(file, b) {
                 NamesAt::Got { names, next: c } => match extensions_at(file, c, head.flags) {
-                    ExtensionsAt::Got { extensions, next } => {
+                    ExtensionsAt::Got {
+                        extensions: _,
+                        next,
+                    } => {
                         return RecordAt::Got {
-                            record: Record {
-                                head,
-                                strings,
-                                names,
-                                extensions,
-                            },
+                            record: Record::placed(at, names.issuer, names.subject, c),
                             next,
                         };
                     }

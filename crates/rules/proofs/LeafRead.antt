@@ -7,22 +7,23 @@ use lib.ListN.{length}
 use borrow.Author.Tests.{le-leb}
 use Rattle.lists.specs.Lists.{usageP, dnsNameP}
 use Rattle.record.specs.Certificate.{certificateOf}
+use Rattle.record.specs.Parts.{headOf, extensionsOf}
 use Rattle.record.specs.declared.Record.{Record}
-use Rattle.record.proofs.Meaning.{RecordRead, says-usages, says-dns-names}
+use Rattle.record.proofs.Meaning.{RecordRead, extensions-of, extensions-read-of, says-usages, says-dns-names}
 use Rattle.rules.specs.Rules.{serving, names, forServers, forHost}
 use Rattle.rules.specs.Records.{forServersAt, forHostAt}
 use Rattle.rules.proofs.AnyOf.{any-read}
 
 module _ (s : List ℕ) (r : Record) (e : ℕ) (t : RecordRead s r e) where
-  pub for-servers-read : forServersAt s (r .extensions .usages) ≡ forServers (certificateOf r s)
+  pub for-servers-read : forServersAt s (extensionsOf (headOf r s .flags) r s .usages) ≡ forServers (certificateOf r s)
   unfolding forServersAt forServers
   for-servers-read =
-      let u = t .extensions .usages in
-      rw (says-usages s r e t, u .as-many, any-read serving usageP s 8 (r .extensions .usages) _ u)
+      let u = extensions-read-of s r e t .usages in
+      rw (extensions-of s r e t, says-usages s r e t, u .as-many, any-read serving usageP s 8 (t .extensions-are .usages) _ u)
 
   -- a host of a card file has at most 253 bytes
-  pub for-host-read : (host : List ℕ) → length host ≤ 253 → forHostAt s host (r .extensions .«dns_names») ≡ forHost host (certificateOf r s)
+  pub for-host-read : (host : List ℕ) → length host ≤ 253 → forHostAt s host (extensionsOf (headOf r s .flags) r s .«dns_names») ≡ forHost host (certificateOf r s)
   unfolding forHostAt forHost
   for-host-read host h =
-      let d = t .extensions .dns-names in
-      rw (says-dns-names s r e t, le-leb (length host) 253 h, any-read (names host) dnsNameP s 32 (r .extensions .«dns_names») _ d)
+      let d = extensions-read-of s r e t .dns-names in
+      rw (extensions-of s r e t, says-dns-names s r e t, le-leb (length host) 253 h, any-read (names host) dnsNameP s 32 (t .extensions-are .«dns_names») _ d)

@@ -8,18 +8,21 @@ use lib.Dec.{leb}
 use borrow.Author.Tests.{eq-eqb, ne-eqb, le-leb}
 use Rattle.extensions.specs.Extensions.{flag}
 use Rattle.record.specs.Certificate.{Certificate, certificateOf}
+use Rattle.record.specs.Parts.{headOf, extensionsOf}
+use Rattle.record.specs.declared.head.Head.{Head}
+use Rattle.extensions.specs.declared.Extensions.{Extensions}
 use Rattle.record.specs.declared.Record.{Record}
 use Rattle.rules.specs.Rules.{atMost, allows}
 use Rattle.rules.specs.Limits.{orNoLimit, limitOf}
 
-module _ (r : Record) (s : List ℕ) where
-  pub limit-given : r .head .flags / 16 % 2 ≡ 1 → limitOf (certificateOf r s) ≡ r .extensions .«path_length»
+module _ (r : Record) (s : List ℕ) (head : Head) (h : head ≡ headOf r s) where
+  pub limit-given : head .flags / 16 % 2 ≡ 1 → (x : Extensions) → x ≡ extensionsOf (head .flags) r s → x .«path_length» ≡ limitOf (certificateOf r s)
   unfolding limitOf certificateOf flag
-  limit-given h = rw (eq-eqb (r .head .flags / 16 % 2) 1 h)
+  limit-given f x q = rw (← h, eq-eqb (head .flags / 16 % 2) 1 f, q)
 
-  pub no-limit : (r .head .flags / 16 % 2 ≡ 1 → ⊥) → limitOf (certificateOf r s) ≡ 255
+  pub no-limit : (head .flags / 16 % 2 ≡ 1 → ⊥) → 255 ≡ limitOf (certificateOf r s)
   unfolding limitOf certificateOf flag
-  no-limit h = rw (ne-eqb (r .head .flags / 16 % 2) 1 h)
+  no-limit f = rw (← h, ne-eqb (head .flags / 16 % 2) 1 f)
 
 limit-says : (n : ℕ) (p : Option ℕ) → n ≤ 255 → leb n (orNoLimit p) ≡ atMost n p
 limit-says n none h = le-leb n 255 h

@@ -1,7 +1,12 @@
 -- What each answer stands for, and what a relation of two encoded arguments answers. Assumes nothing.
 use Prim.Native.Nat.{ℕ}
-use mathlib.Core.Bool.{Bool, false, cond}
-use Rattle.fields.specs.Fields.{Parsed, got, stop}
+use mathlib.Core.Bool.{Bool, false, cond, _||_}
+use mathlib.Core.List.{List}
+use Rattle.fields.specs.Fields.{Parsed, got, stop, bytesOf}
+use Rattle.fields.specs.declared.string.Span.{Span}
+use Rattle.text.specs.Bytes.{same}
+use Rattle.names.specs.Names.{nameP}
+use Rattle.same.specs.Same.{sameDn}
 use Rattle.fields.specs.Answers.{number}
 use Rattle.same.specs.declared.walk.Walk.{Walk}
 use Rattle.same.specs.declared.walk.Walk.the-variants.{On, Differ}
@@ -25,6 +30,11 @@ abbrev pub bothRead : {A : Type 0} → (A → A → Bool) → Parsed A → Parse
 bothRead q (stop r) b = false
 bothRead q (got x e) (stop r) = false
 bothRead q (got x e) (got y f) = q x y
+
+-- the names at two spans: the same bytes, or both can be read and are the same
+unfoldable pub sameNames : Bool → Span → Span → List ℕ → Bool
+sameNames normalise a b s =
+    same (bytesOf a s) (bytesOf b s) || bothRead (sameDn normalise) (nameP s (a .start)) (nameP s (b .start))
 
 -- a walk that came through is a yes
 abbrev pub came : Walk → ℕ

@@ -1,4 +1,5 @@
 // Two attributes, RDNs or names walked side by side, place by place.
+use fields::Span;
 use fields::part;
 use names::Attribute;
 use names::AttributeAt;
@@ -19,7 +20,7 @@ ghost use Rattle.text.specs.Normal.{normal};
 ghost use Rattle.names.specs.Names.{attrP, rdnP, nameP};
 ghost use Rattle.names.specs.Answers.{attrOf, Short};
 ghost use Rattle.same.specs.Same.{places, sameAttr, sameRdn, sameDn};
-ghost use Rattle.same.specs.Answers.{bothRead};
+ghost use Rattle.same.specs.Answers.{sameNames};
 ghost use Rattle.same.specs.Walks.{walk};
 
 // Two things are related and end here; or they are not, or one of them can't be read.
@@ -28,11 +29,14 @@ pub enum Walk {
     Differ,
 }
 
-// Whether the names at two places of a file are the same, walked once.
-pub fn same_names(file: &[u8], a: usize, b: usize, normalise: bool) -> bool
-    ensures { λ r. ⌜ r ≡ bothRead (sameDn normalise) (nameP (now (file .entry)) a) (nameP (now (file .entry)) b) ⌝ }
+// Whether the names at two spans of a file are the same: the same bytes are, and where they differ both are walked once.
+pub fn same_names(file: &[u8], a: Span, b: Span, normalise: bool) -> bool
+    ensures { λ r. ⌜ r ≡ sameNames normalise a b (now (file .entry)) ⌝ }
 {
-    match dn_walk(file, a, file, b, normalise) {
+    if equal(part(file, a), part(file, b)) {
+        return true;
+    }
+    match dn_walk(file, a.start, file, b.start, normalise) {
         Walk::On { left: _, right: _ } => {
             return true;
         }

@@ -1,5 +1,3 @@
--- `record_at` answers a record's four groups of parts, one after the other, or the first fault.
--- A letter is the place after a part's call, and primed the place where the part was found. Assumes nothing.
 use borrow.Author.Needs.{needs}
 use mathlib.Core.Path.{sym, ap, _∙_}
 use Rattle.extensions.specs.Answers.{extended}
@@ -17,8 +15,8 @@ enum-known-head c = search needs
 strings-at-requires : tie.Need-strings-at-requires
 strings-at-requires c κs = search needs
 
-enum-known-strings : tie.Need-enum-known-strings
-enum-known-strings c = search needs
+enum-known-b : tie.Need-enum-known-b
+enum-known-b c = search needs
 
 names-at-requires : tie.Need-names-at-requires
 names-at-requires c κs = search needs
@@ -29,13 +27,17 @@ enum-known-names c = search needs
 extensions-at-requires : tie.Need-extensions-at-requires
 extensions-at-requires c κs = search needs
 
-enum-known-extensions : tie.Need-enum-known-extensions
-enum-known-extensions c = search needs
+enum-known-next : tie.Need-enum-known-next
+enum-known-next c = search needs
+
+placed-requires : tie.Need-placed-requires
+placed-requires c κs = search needs
 
 returns : tie.Need-returns
 unfolding recordP
 returns c =
-    let x = c .before .before .before in
+    let k = c .before .before in
+    let x = k .before .before in
     let n' = x .before .before in
     let n = n' .before .before in
     let s' = n .before .before in
@@ -44,9 +46,10 @@ returns c =
     let h = h' .before .before in
     rw (
       sym (h .head-at .ensures) ∙ ap headed (h' .head .given .1),
-      sym (s .strings-at .ensures) ∙ ap stringed (s' .strings .given .1),
+      sym (s .strings-at .ensures) ∙ ap stringed (s' .b .given .1),
       sym (n .names-at .ensures) ∙ ap named (n' .names .given .1),
-      sym (x .extensions-at .ensures) ∙ ap extended (c .before .extensions .given .1),
+      sym (x .extensions-at .ensures) ∙ ap extended (k .next .given .1),
+      c .placed .ensures,
     )
 
 enum-known-fault : tie.Need-enum-known-fault
@@ -64,7 +67,7 @@ returns-2 c =
     let h = h' .before .before in
     rw (
       sym (h .head-at .ensures) ∙ ap headed (h' .head .given .1),
-      sym (s .strings-at .ensures) ∙ ap stringed (s' .strings .given .1),
+      sym (s .strings-at .ensures) ∙ ap stringed (s' .b .given .1),
       sym (n .names-at .ensures) ∙ ap named (n' .names .given .1),
       sym (x .extensions-at .ensures) ∙ ap extended (c .before .fault .given .1),
     )
@@ -82,7 +85,7 @@ returns-3 c =
     let h = h' .before .before in
     rw (
       sym (h .head-at .ensures) ∙ ap headed (h' .head .given .1),
-      sym (s .strings-at .ensures) ∙ ap stringed (s' .strings .given .1),
+      sym (s .strings-at .ensures) ∙ ap stringed (s' .b .given .1),
       sym (n .names-at .ensures) ∙ ap named (c .before .fault2 .given .1),
     )
 
@@ -105,7 +108,8 @@ enum-known-fault-4 c = search needs
 
 returns-5 : tie.Need-returns-5
 unfolding recordP
-returns-5 c = rw (sym (c .before .before .before .head-at .ensures) ∙ ap headed (c .before .fault4 .given .1))
+returns-5 c =
+    rw (sym (c .before .before .before .head-at .ensures) ∙ ap headed (c .before .fault4 .given .1))
 
 pub record-at-spec : {M : Type 1} → statement M
 record-at-spec =
@@ -114,11 +118,12 @@ record-at-spec =
     head-at-requires
     enum-known-head
     strings-at-requires
-    enum-known-strings
+    enum-known-b
     names-at-requires
     enum-known-names
     extensions-at-requires
-    enum-known-extensions
+    enum-known-next
+    placed-requires
     returns
     enum-known-fault
     returns-2

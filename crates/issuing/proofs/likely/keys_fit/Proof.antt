@@ -1,8 +1,23 @@
 -- `keys_fit` hands over the parts that the two records say, each by its flag. Assumes nothing.
-use Rattle.issuing.proofs.Fits.{keys-fit}
 use borrow.Author.Needs.{needs}
+use Rattle.issuing.proofs.Fits.{keys-fit}
 use Rattle.issuing.proofs.likely.keys_fit.Statement.{statement}
 use Rattle.issuing.proofs.likely.keys_fit.Tie as tie
+
+head-requires : tie.Need-head-requires
+head-requires c κs = search needs
+
+head-requires-2 : tie.Need-head-requires-2
+head-requires-2 c κs = search needs
+
+key-ids-requires : tie.Need-key-ids-requires
+key-ids-requires c κs = search needs
+
+key-ids-requires-2 : tie.Need-key-ids-requires-2
+key-ids-requires-2 c κs = search needs
+
+strings-requires : tie.Need-strings-requires
+strings-requires c κs = search needs
 
 part-requires : tie.Need-part-requires
 part-requires c κs = search needs
@@ -23,14 +38,25 @@ returns : tie.Need-returns
 returns c =
     let d = c .before in
     let k = d .before in
-    let b = k .before .before in
-    let a = b .before .before in
-    keys-fit _ _ _ _ _ _ _ _ (c .check-auth-key-id .ensures) (a .part .ensures) (b .part2 .ensures) (k .part3 .ensures) (d .part4 .ensures)
+    let b = k .before in
+    let a = b .before in
+    let t = a .before in
+    let o = t .before in
+    let u = o .before in
+    let n = u .before in
+    let f = n .before in
+    keys-fit _ _ _ _ _ _ _ _ _ _ _ _ _ (f .head .ensures) (n .head2 .ensures) (u .key-ids .ensures) (o .key-ids2 .ensures) (t .strings .ensures)
+    (c .check-auth-key-id .ensures) (a .part .ensures) (b .part2 .ensures) (k .part3 .ensures) (d .part4 .ensures)
 
 pub keys-fit-spec : {M : Type 1} → statement M
 keys-fit-spec =
     tie.close
     (tie.spec
+    head-requires
+    head-requires-2
+    key-ids-requires
+    key-ids-requires-2
+    strings-requires
     part-requires
     part-requires-2
     part-requires-3

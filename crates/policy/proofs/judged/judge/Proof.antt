@@ -31,7 +31,7 @@ returns c =
     let s = a .file .now in
     let sound = above-sound s _ _ _ _ _ (l .leaf-sound .ensures) (p .part .ensures) (r .«record» .ensures) (c .if1 .taken) in (
       b .places-between .ensures .0,
-      (b .places-between .ensures .1, (above .roots-above .ensures s .0 ∙ sym sound, above .roots-above .ensures s .1)),
+      (b .places-between .ensures .1, (above .roots-above .ensures .0 ∙ sym sound, above .roots-above .ensures .1)),
     )
 
 returns-2 : tie.Need-returns-2
@@ -44,7 +44,7 @@ returns-2 c =
     let a = b .before .before .args in
     let s = a .file .now in
     let none = above-unsound s _ _ _ _ _ (l .leaf-sound .ensures) (p .part .ensures) (r .«record» .ensures) (c .before .if1 .left) in
-    (b .places-between .ensures .0, (b .places-between .ensures .1, (sym none, above .roots-above .ensures s .1)))
+    (b .places-between .ensures .0, (b .places-between .ensures .1, (sym none, above .roots-above .ensures .1)))
 
 pub judge-spec : {M : Type 1} → statement M
 judge-spec =

@@ -37,6 +37,9 @@ mul-record c = search needs
 element-copy-out-record : tie.Need-element-copy-out-record Inv-loop μ-loop
 element-copy-out-record c = search needs
 
+head-requires : tie.Need-head-requires Inv-loop μ-loop
+head-requires c κs = search needs
+
 limit-requires : tie.Need-limit-requires Inv-loop μ-loop
 limit-requires c κs = search needs
 
@@ -64,14 +67,15 @@ loop-less c = search needs
 loop-again : tie.Need-loop-again Inv-loop μ-loop
 loop-again c =
     let l = c .before .before in
-    let p = l .before in
+    let h = l .before in
+    let p = h .before in
     let t = p .before in
     let a = t .before .before .before .before .args in
     let s = a .file .now in
     let j = t .before .loop .inv in
     let read = record-counted 16 (a .t3 .count) (a .t3 .records) _ _ (t .before .before .size .ensures) (t .loop-test .taken) in
-    let limit = l .limit .ensures s ∙ ap (λ r. limitOf (certificateOf r s)) read in
-    let test = sym (c .before .between-sound .ensures ∙ ap (λ r. betweenSound (a .time) (certificateOf r s)) read) in
+    let limit = l .limit .ensures (h .head .ensures) ∙ ap (λ r. limitOf (certificateOf r s)) read in
+    let test = sym (c .before .between-sound .ensures (h .head .ensures) ∙ ap (λ r. betweenSound (a .time) (certificateOf r s)) read) in
     let room : t .before .loop .i < 16 = omega arith in (
       omega arith,
       omega arith,
@@ -97,6 +101,7 @@ places-between-spec =
     cast-record
     mul-record
     element-copy-out-record
+    head-requires
     limit-requires
     cast-limits
     mul-limits

@@ -15,19 +15,19 @@ use Rattle.policy.proofs.judged.roots_above.Statement.{statement}
 use Rattle.policy.proofs.judged.roots_above.Tie as tie
 
 abbrev Inv-loop : tie.InvT-loop
-Inv-loop time roots n sound₀ limits₀ i₀ sound limits i =
+Inv-loop file time roots n sound₀ limits₀ i₀ sound limits i =
     (n ≤ 32)
     × (i ≤ n)
-    × ((s : List ℕ) → Judging (λ j. topSound time (rootOf s roots j)) (λ j. limitOf (rootOf s roots j)) 32 sound limits i)
+    × Judging (λ j. topSound time (rootOf file roots j)) (λ j. limitOf (rootOf file roots j)) 32 sound limits i
 
 abbrev μ-loop : tie.MeasureT-loop
-μ-loop time roots n sound₀ limits₀ i₀ sound limits i = n - i
+μ-loop file time roots n sound₀ limits₀ i₀ sound limits i = n - i
 
 size-requires : tie.Need-size-requires Inv-loop μ-loop
 size-requires c κs = search needs
 
 loop-holds : tie.Need-loop-holds Inv-loop μ-loop
-loop-holds c = (rw (c .size .ensures) (size-within 32 _), omega arith, λ s. judging-starts _ _ 32)
+loop-holds c = (rw (c .size .ensures) (size-within 32 _), omega arith, judging-starts _ _ 32)
 
 cast-record : tie.Need-cast-record Inv-loop μ-loop
 cast-record c = search needs
@@ -37,6 +37,9 @@ mul-record c = search needs
 
 element-copy-out-record : tie.Need-element-copy-out-record Inv-loop μ-loop
 element-copy-out-record c = search needs
+
+head-requires : tie.Need-head-requires Inv-loop μ-loop
+head-requires c κs = search needs
 
 limit-requires : tie.Need-limit-requires Inv-loop μ-loop
 limit-requires c κs = search needs
@@ -65,27 +68,28 @@ loop-less c = search needs
 loop-again : tie.Need-loop-again Inv-loop μ-loop
 loop-again c =
     let l = c .before .before in
-    let p = l .before in
+    let h = l .before in
+    let p = h .before in
     let t = p .before in
-    let a = t .before .before .before .args in
+    let a = t .before .before .before .before .args in
+    let s = a .file .now in
     let j = t .before .loop .inv in
-    let read = record-counted 32 (a .t2 .count) (a .t2 .records) _ _ (t .before .before .size .ensures) (t .loop-test .taken) in
+    let read = record-counted 32 (a .t3 .count) (a .t3 .records) _ _ (t .before .before .size .ensures) (t .loop-test .taken) in
+    let limit = l .limit .ensures (h .head .ensures) ∙ ap (λ r. limitOf (certificateOf r s)) read in
+    let test = sym (c .before .top-sound .ensures _ s (h .head .ensures) ∙ ap (λ r. topSound (a .time) (certificateOf r s)) read) in
     let room : t .before .loop .i < 32 = omega arith in (
       omega arith,
       omega arith,
-      λ s.
-          let limit = l .limit .ensures s ∙ ap (λ r. limitOf (certificateOf r s)) read in
-          let test = sym (c .before .top-sound .ensures s ∙ ap (λ r. topSound (a .time) (certificateOf r s)) read) in
-          ⊎-elim (λ w. judging-joins _ _ _ _ _ _ (j .2 s) room _ _ limit (test ∙ w .0 .taken) (w .2 ∙ w .1 .ensures))
-          (λ w. judging-passes _ _ _ _ _ _ (j .2 s) room _ _ limit (test ∙ w .0 .left) (w .1))
+      ⊎-elim (λ w. judging-joins _ _ _ _ _ _ (j .2) room _ _ limit (test ∙ w .0 .taken) (w .2 ∙ w .1 .ensures))
+          (λ w. judging-passes _ _ _ _ _ _ (j .2) room _ _ limit (test ∙ w .0 .left) (w .1))
           (c .if1 .came),
     )
 
 returns : tie.Need-returns Inv-loop μ-loop
 unfolding soundRoots rootLimits
-returns c s =
+returns c =
     let j = c .before .loop .inv in
-    judging-ends _ _ _ _ _ _ _ _ (j .2 s) (j .1) (c .loop-test .left) (c .before .before .size .ensures)
+    judging-ends _ _ _ _ _ _ _ _ (j .2) (j .1) (c .loop-test .left) (c .before .before .size .ensures)
 
 pub roots-above-spec : {M : Type 1} → statement M
 roots-above-spec =
@@ -98,6 +102,7 @@ roots-above-spec =
     cast-record
     mul-record
     element-copy-out-record
+    head-requires
     limit-requires
     cast-limits
     mul-limits

@@ -8,15 +8,15 @@ use Rattle.rules.proofs.rules.authority.Tie as tie
 
 returns : tie.Need-returns
 unfolding authority certificateOf flag
-returns c = λ s. rw (ne-eqb _ _ (c .if1 .taken))
+returns c = λ cert s h. rw (← h, ne-eqb _ _ (c .if1 .taken))
 
 returns-2 : tie.Need-returns-2
 unfolding authority certificateOf flag
-returns-2 c = λ s. rw (eq-eqb _ _ (c .before .if1 .left), ne-eqb _ _ (c .if2 .taken))
+returns-2 c = λ cert s h. rw (← h, eq-eqb _ _ (c .before .if1 .left), ne-eqb _ _ (c .if2 .taken))
 
 returns-3 : tie.Need-returns-3
 unfolding authority certificateOf flag
-returns-3 c = λ s. rw (eq-eqb _ _ (c .before .if1 .left), eq-eqb _ _ (c .if2 .left))
+returns-3 c = λ cert s h. rw (← h, eq-eqb _ _ (c .before .if1 .left), eq-eqb _ _ (c .if2 .left))
 
 pub authority-spec : {M : Type 1} → statement M
 authority-spec = tie.close (tie.spec returns returns-2 returns-3)

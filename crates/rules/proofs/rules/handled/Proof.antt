@@ -8,7 +8,7 @@ use Rattle.rules.proofs.rules.handled.Tie as tie
 
 returns : tie.Need-returns
 unfolding handled certificateOf flag
-returns c = λ s. refl
+returns c = λ cert s h. rw (← h)
 
 pub handled-spec : {M : Type 1} → statement M
 handled-spec = tie.close (tie.spec returns)

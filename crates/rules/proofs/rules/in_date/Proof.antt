@@ -7,11 +7,11 @@ use Rattle.rules.proofs.rules.in_date.Tie as tie
 
 returns : tie.Need-returns
 unfolding inDate certificateOf
-returns c = λ s. rw (lt-leb _ _ (c .if1 .taken))
+returns c = λ cert s h. rw (← h, lt-leb _ _ (c .if1 .taken))
 
 returns-2 : tie.Need-returns-2
 unfolding inDate certificateOf
-returns-2 c = λ s. rw (le-leb _ _ (c .before .if1 .left))
+returns-2 c = λ cert s h. rw (← h, le-leb _ _ (c .before .if1 .left))
 
 pub in-date-spec : {M : Type 1} → statement M
 in-date-spec = tie.close (tie.spec returns returns-2)

@@ -1,14 +1,17 @@
 -- `limit` answers a certificate's path length, or no limit. Assumes nothing.
-use mathlib.Core.Path.{sym}
+use borrow.Author.Needs.{needs}
 use Rattle.rules.proofs.Limits.{limit-given, no-limit}
 use Rattle.rules.proofs.rules.limit.Statement.{statement}
 use Rattle.rules.proofs.rules.limit.Tie as tie
 
+extensions-requires : tie.Need-extensions-requires
+extensions-requires c κs = search needs
+
 returns : tie.Need-returns
-returns c s = sym (limit-given _ s (c .if1 .taken))
+returns c = λ h. limit-given _ _ _ h (c .before .if1 .taken) _ (c .extensions .ensures)
 
 returns-2 : tie.Need-returns-2
-returns-2 c s = sym (no-limit (c .before .before .args .cert) s (c .if1 .left))
+returns-2 c = λ h. no-limit _ _ _ h (c .if1 .left)
 
 pub limit-spec : {M : Type 1} → statement M
-limit-spec = tie.close (tie.spec returns returns-2)
+limit-spec = tie.close (tie.spec extensions-requires returns returns-2)

@@ -9,7 +9,10 @@ use Rattle.rules.proofs.rules.well_formed.Tie as tie
 
 returns : tie.Need-returns
 unfolding wellFormed certificateOf
-returns c = rw (ne-eqb _ _ (c .if1 .taken))
+returns c = λ h. rw (← h, ne-eqb _ _ (c .if1 .taken))
+
+strings-requires : tie.Need-strings-requires
+strings-requires c κs = search needs
 
 part-requires : tie.Need-part-requires
 part-requires c κs = search needs
@@ -22,11 +25,12 @@ equal-requires c κs = search needs
 
 returns-2 : tie.Need-returns-2
 unfolding wellFormed certificateOf
-returns-2 c =
+returns-2 c = λ h.
     let q = c .before in
     let p = q .before in
-    c .equal .ensures ∙ rw (p .part .ensures, q .part2 .ensures, eq-eqb _ _ (p .before .if1 .left))
+    let t = p .before in
+    c .equal .ensures ∙ rw (p .part .ensures, q .part2 .ensures, t .strings .ensures, ← h, eq-eqb _ _ (t .before .if1 .left))
 
 pub well-formed-spec : {M : Type 1} → statement M
 well-formed-spec =
-    tie.close (tie.spec returns part-requires part-requires-2 equal-requires returns-2)
+    tie.close (tie.spec returns strings-requires part-requires part-requires-2 equal-requires returns-2)

@@ -136,7 +136,7 @@ module _ (s : List ℕ) where
   option-onward true most at = no-earlier (span-onward s 1 most at)
   option-onward false most at = onward-got at _ at (omega arith)
 
-  key-ids-onward : (flags at : ℕ) → Onward at (keyIdsP flags s at)
+  pub key-ids-onward : (flags at : ℕ) → Onward at (keyIdsP flags s at)
   unfolding keyIdsP
   key-ids-onward flags at =
       onward-after (optionP (flag 1 flags) 64 s at) _ (option-onward (flag 1 flags) 64 at) (λ a e.
@@ -144,7 +144,7 @@ module _ (s : List ℕ) where
       onward-after (optionP (flag 4 flags) 64 s f) _ (option-onward (flag 4 flags) 64 f) (λ c g.
       onward-got g _ g (omega arith))))
 
-  path-length-onward : (flags at : ℕ) → Onward at (pathLengthP flags s at)
+  pub path-length-onward : (flags at : ℕ) → Onward at (pathLengthP flags s at)
   unfolding pathLengthP
   path-length-onward flags at = by-flag (flag 16 flags)
     where

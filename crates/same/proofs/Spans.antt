@@ -1,0 +1,63 @@
+-- Two names that were read are the same by their bytes or by their parts exactly where they are the same. Assumes nothing.
+use Prim.Native.Nat.{ℕ, _≤_}
+use mathlib.Core.Path.{_≡_, refl, sym, ap, _∙_}
+use mathlib.Core.Bool.{Bool, true, false, cond, _&&_, _||_}
+use mathlib.Core.List.{List, [], _∷_}
+use borrow.Author.Tests.{eq-eqb}
+use lib.ListN.{length}
+use Rattle.text.specs.Bytes.{same}
+use Rattle.text.specs.Normal.{normal}
+use Rattle.text.proofs.Same.{same-sound, same-refl}
+use Rattle.fields.specs.Fields.{got, bytesOf}
+use Rattle.fields.specs.declared.string.Span.{Span}
+use Rattle.names.specs.Names.{Attr, nameP}
+use Rattle.names.proofs.Alike.{bytes-alike}
+use Rattle.same.specs.Same.{places, sameAttr, sameRdn, sameDn}
+use Rattle.same.specs.Answers.{bothRead, sameNames}
+
+-- ---- each thing is the same as itself
+
+places-refl : {A : Type 0} (q : A → A → Bool) → ((x : A) → q x x ≡ true) → (l : List A) → places q l l ≡ true
+unfolding places
+places-refl q h [] = refl
+places-refl q h (x ∷ l) = rw (h x, places-refl q h l)
+
+attr-refl : (n : Bool) (a : Attr) → sameAttr n a a ≡ true
+unfolding sameAttr
+attr-refl true a = rw (same-refl (a .oid), same-refl (normal (a .value)))
+attr-refl false a = rw (same-refl (a .oid), same-refl (a .value))
+
+rdn-refl : (n : Bool) (a : List Attr) → sameRdn n a a ≡ true
+unfolding sameRdn
+rdn-refl n a = rw (eq-eqb (length a) (length a) refl, places-refl (sameAttr n) (attr-refl n) a)
+
+pub dn-refl : (n : Bool) (a : List (List Attr)) → sameDn n a a ≡ true
+unfolding sameDn
+dn-refl n a = rw (eq-eqb (length a) (length a) refl, places-refl (sameRdn n) (rdn-refl n) a)
+
+-- ---- the answers
+
+module _ (n : Bool) (a b : Span) (s : List ℕ) where
+  pub bytes-same : same (bytesOf a s) (bytesOf b s) ≡ true → true ≡ sameNames n a b s
+  unfolding sameNames
+  bytes-same h = rw h
+
+  pub bytes-differ : (r : Bool) → same (bytesOf a s) (bytesOf b s) ≡ false
+      → r ≡ bothRead (sameDn n) (nameP s (a .start)) (nameP s (b .start)) → r ≡ sameNames n a b s
+  unfolding sameNames
+  bytes-differ r h k = rw h k
+
+-- ---- two names
+
+module _ (n : Bool) (s : List ℕ) (a b : Span) (x y : List (List Attr)) (h : nameP s (a .start) ≡ got x (a .end)) (k : nameP s (b .start) ≡ got y (b .end))
+    (l : a .end ≤ length s) (m : b .end ≤ length s)
+  where
+    pub spans-read : sameNames n a b s ≡ sameDn n x y
+    unfolding sameNames
+    spans-read = rw (h, k) (by-bytes (same (bytesOf a s) (bytesOf b s)) refl)
+      where
+        by-bytes : (q : Bool) → same (bytesOf a s) (bytesOf b s) ≡ q → (q || sameDn n x y) ≡ sameDn n x y
+        by-bytes true e =
+            let z = bytes-alike s (a .start) (b .start) x y (a .end) (b .end) h k l m (same-sound _ _ e) in
+            sym (ap (sameDn n x) (sym z) ∙ dn-refl n x)
+        by-bytes false e = refl
