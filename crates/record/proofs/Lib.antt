@@ -1,4 +1,5 @@
 pub mod Onward
+pub mod Heads
 pub mod Flags
 pub mod Frauds
 pub mod Items

@@ -5,6 +5,8 @@ use fields::NumberAt;
 use fields::byte_at;
 use fields::u64_at;
 ghost use mathlib.Core.Path.{_≡_};
+ghost use Rattle.fields.specs.Answers.{counted};
+ghost use Rattle.fields.specs.Fields.{got, after};
 ghost use Rattle.record.specs.Record.{flagsP, datesP, headP};
 ghost use Rattle.record.specs.Answers.{flagged, dated, headed};
 
@@ -68,6 +70,33 @@ pub(crate) fn head_at(file: &[u8], at: usize) -> HeadAt
         },
         FlagsAt::Stop(fault) => {
             return HeadAt::Stop(fault);
+        }
+    }
+}
+
+// The flags, and the place past the head: of the dates, only that they are there.
+pub(crate) fn flags_past(file: &[u8], at: usize) -> CountAt
+    ensures { λ r. ⌜ counted r ≡ after (headP (now (file .entry)) at) (λ head e. got (head .flags) e) ⌝ }
+{
+    match flags_at(file, at) {
+        FlagsAt::Got {
+            version: _,
+            flags,
+            next: a,
+        } => match dates_at(file, a) {
+            DatesAt::Got {
+                not_before: _,
+                not_after: _,
+                next,
+            } => {
+                return CountAt::Got { count: flags, next };
+            }
+            DatesAt::Stop(fault) => {
+                return CountAt::Stop(fault);
+            }
+        },
+        FlagsAt::Stop(fault) => {
+            return CountAt::Stop(fault);
         }
     }
 }

@@ -11,10 +11,12 @@ use extensions::KeyIds;
 use extensions::KeyIdsAt;
 use extensions::extensions_at;
 use extensions::key_ids_at;
+use fields::CountAt;
 use fields::Fault;
 use fields::Span;
 pub use head::Head;
 use head::HeadAt;
+use head::flags_past;
 use head::head_at;
 use lists::Row;
 pub use parties::Names;
@@ -88,6 +90,23 @@ impl Record {
                     not_before: 0,
                     not_after: 0,
                 };
+            }
+        }
+    }
+
+    // The flags of the head, for who needs no more of it.
+    pub fn flags(self, file: &[u8]) -> usize
+        ensures { λ r. ⌜ r ≡ headOf self (now (file .entry)) .flags ⌝ }
+    {
+        match flags_past(file, self.start as usize) {
+            CountAt::Got {
+                count: flags,
+                next: _,
+            } => {
+                return flags;
+            }
+            CountAt::Stop(_) => {
+                return 0;
             }
         }
     }
@@ -188,13 +207,16 @@ pub enum RecordAt {
 pub fn record_at(file: &[u8], at: usize) -> RecordAt
     ensures { λ r. ⌜ recorded r ≡ recordP (now (file .entry)) at ⌝ }
 {
-    match head_at(file, at) {
-        HeadAt::Got { head, next: a } => match strings_at(file, a) {
+    match flags_past(file, at) {
+        CountAt::Got {
+            count: flags,
+            next: a,
+        } => match strings_at(file, a) {
             StringsAt::Got {
                 strings: _,
                 next: b,
             } => match names_at(file, b) {
-                NamesAt::Got { names, next: c } => match extensions_at(file, c, head.flags) {
+                NamesAt::Got { names, next: c } => match extensions_at(file, c, flags) {
                     ExtensionsAt::Got {
                         extensions: _,
                         next,
@@ -216,7 +238,7 @@ pub fn record_at(file: &[u8], at: usize) -> RecordAt
                 return RecordAt::Stop(fault);
             }
         },
-        HeadAt::Stop(fault) => {
+        CountAt::Stop(fault) => {
             return RecordAt::Stop(fault);
         }
     }

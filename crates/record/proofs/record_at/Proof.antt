@@ -1,16 +1,19 @@
+-- `record_at` answers a record's four groups of parts, one after the other, or the first fault.
+-- A letter is the place after a part's call, and primed the place where the part was found. Assumes nothing.
 use borrow.Author.Needs.{needs}
 use mathlib.Core.Path.{sym, ap, _∙_}
+use Rattle.fields.specs.Answers.{counted}
 use Rattle.extensions.specs.Answers.{extended}
-use Rattle.record.specs.Record.{recordP}
-use Rattle.record.specs.Answers.{headed, stringed, named}
+use Rattle.record.specs.Answers.{stringed, named}
+use Rattle.record.proofs.Heads.{record-behind, record-stops}
 use Rattle.record.proofs.record_at.Statement.{statement}
 use Rattle.record.proofs.record_at.Tie as tie
 
-head-at-requires : tie.Need-head-at-requires
-head-at-requires c κs = search needs
+flags-past-requires : tie.Need-flags-past-requires
+flags-past-requires c κs = search needs
 
-enum-known-head : tie.Need-enum-known-head
-enum-known-head c = search needs
+enum-known-flags : tie.Need-enum-known-flags
+enum-known-flags c = search needs
 
 strings-at-requires : tie.Need-strings-at-requires
 strings-at-requires c κs = search needs
@@ -34,7 +37,6 @@ placed-requires : tie.Need-placed-requires
 placed-requires c κs = search needs
 
 returns : tie.Need-returns
-unfolding recordP
 returns c =
     let k = c .before .before in
     let x = k .before .before in
@@ -44,19 +46,18 @@ returns c =
     let s = s' .before .before in
     let h' = s .before .before in
     let h = h' .before .before in
-    rw (
-      sym (h .head-at .ensures) ∙ ap headed (h' .head .given .1),
+    sym (record-behind _ _ (sym (h .flags-past .ensures) ∙ ap counted (h' .flags .given .1))
+    ∙ rw (
       sym (s .strings-at .ensures) ∙ ap stringed (s' .b .given .1),
       sym (n .names-at .ensures) ∙ ap named (n' .names .given .1),
       sym (x .extensions-at .ensures) ∙ ap extended (k .next .given .1),
-      c .placed .ensures,
-    )
+      ← c .placed .ensures,
+    ))
 
 enum-known-fault : tie.Need-enum-known-fault
 enum-known-fault c = search needs
 
 returns-2 : tie.Need-returns-2
-unfolding recordP
 returns-2 c =
     let x = c .before .before .before in
     let n' = x .before .before in
@@ -65,58 +66,53 @@ returns-2 c =
     let s = s' .before .before in
     let h' = s .before .before in
     let h = h' .before .before in
-    rw (
-      sym (h .head-at .ensures) ∙ ap headed (h' .head .given .1),
+    sym (record-behind _ _ (sym (h .flags-past .ensures) ∙ ap counted (h' .flags .given .1))
+    ∙ rw (
       sym (s .strings-at .ensures) ∙ ap stringed (s' .b .given .1),
       sym (n .names-at .ensures) ∙ ap named (n' .names .given .1),
       sym (x .extensions-at .ensures) ∙ ap extended (c .before .fault .given .1),
-    )
+    ))
 
 enum-known-fault-2 : tie.Need-enum-known-fault-2
 enum-known-fault-2 c = search needs
 
 returns-3 : tie.Need-returns-3
-unfolding recordP
 returns-3 c =
     let n = c .before .before .before in
     let s' = n .before .before in
     let s = s' .before .before in
     let h' = s .before .before in
     let h = h' .before .before in
-    rw (
-      sym (h .head-at .ensures) ∙ ap headed (h' .head .given .1),
+    sym (record-behind _ _ (sym (h .flags-past .ensures) ∙ ap counted (h' .flags .given .1))
+    ∙ rw (
       sym (s .strings-at .ensures) ∙ ap stringed (s' .b .given .1),
       sym (n .names-at .ensures) ∙ ap named (c .before .fault2 .given .1),
-    )
+    ))
 
 enum-known-fault-3 : tie.Need-enum-known-fault-3
 enum-known-fault-3 c = search needs
 
 returns-4 : tie.Need-returns-4
-unfolding recordP
 returns-4 c =
     let s = c .before .before .before in
     let h' = s .before .before in
     let h = h' .before .before in
-    rw (
-      sym (h .head-at .ensures) ∙ ap headed (h' .head .given .1),
-      sym (s .strings-at .ensures) ∙ ap stringed (c .before .fault3 .given .1),
-    )
+    sym (record-behind _ _ (sym (h .flags-past .ensures) ∙ ap counted (h' .flags .given .1))
+    ∙ rw (sym (s .strings-at .ensures) ∙ ap stringed (c .before .fault3 .given .1)))
 
 enum-known-fault-4 : tie.Need-enum-known-fault-4
 enum-known-fault-4 c = search needs
 
 returns-5 : tie.Need-returns-5
-unfolding recordP
 returns-5 c =
-    rw (sym (c .before .before .before .head-at .ensures) ∙ ap headed (c .before .fault4 .given .1))
+    sym (record-stops _ _ (sym (c .before .before .before .flags-past .ensures) ∙ ap counted (c .before .fault4 .given .1)))
 
 pub record-at-spec : {M : Type 1} → statement M
 record-at-spec =
     tie.close
     (tie.spec
-    head-at-requires
-    enum-known-head
+    flags-past-requires
+    enum-known-flags
     strings-at-requires
     enum-known-b
     names-at-requires

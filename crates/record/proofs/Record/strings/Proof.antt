@@ -1,3 +1,4 @@
+-- `strings` are those behind the head, or nowhere. Assumes nothing.
 use borrow.Author.Needs.{needs}
 use mathlib.Core.Path.{sym, ap, _∙_}
 use Rattle.record.specs.Answers.{stringed}
