@@ -135,7 +135,10 @@ fn difference(less: &[u8], more: &[u8], lasting: Duration) -> Vec<f64> {
     let both = [jobs(less, &CLOSE), jobs(more, &CLOSE)].concat();
     let times = times(&both, lasting);
     let (less, more) = times.split_at(CLOSE.len());
-    more.iter().zip(less).map(|(more, less)| more - less).collect()
+    more.iter()
+        .zip(less)
+        .map(|(more, less)| more - less)
+        .collect()
 }
 
 /// A file with a byte left over is read to its end and then answered: its time is the reader's.
@@ -170,7 +173,8 @@ pub fn issuing(lasting: Duration) {
                     signed,
                     budget: 0,
                 });
-                ratios(&difference(&left_over(file.clone()), &file, lasting), micros)
+                let past_reading = difference(&left_over(file.clone()), &file, lasting);
+                ratios(&past_reading, micros)
             });
             println!("| {certificates} | {roots} | {} |", taken.join(" | "));
         }

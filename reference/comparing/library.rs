@@ -14,15 +14,33 @@ pub struct Answer {
     path: [u8; 16],
 }
 
+impl Answer {
+    const NONE: Answer = Answer {
+        steps: 0,
+        number: 0,
+        root: 0,
+        length: 0,
+        path: [0; 16],
+    };
+}
+
+// The place for the answer comes first: so the kit's module takes it on every machine (examples/by_value.c).
 extern "C" {
-    fn savuneco_search(file: *const u8, file_len: usize, room: *mut u8, room_len: usize) -> Answer;
+    fn savuneco_search(
+        answer: *mut Answer,
+        file: *const u8,
+        file_len: usize,
+        room: *mut u8,
+        room_len: usize,
+    );
     fn savuneco_paused(
+        answer: *mut Answer,
         file: *const u8,
         file_len: usize,
         k: u64,
         room: *mut u8,
         room_len: usize,
-    ) -> Answer;
+    );
 }
 
 /// What a call answered, and the bytes that it left in the lent room and on both sides of it.
@@ -54,11 +72,13 @@ pub fn by_library(file: &[u8], question: &Question) -> Said {
     if lent.is_empty() {
         lent_at = std::ptr::null_mut();
     }
-    // SAFETY: each pointer is valid for its length, and the room overlaps nothing else that is in use.
-    let answer = unsafe {
+    let mut answer = Answer::NONE;
+    let (at, file_len, lent_len) = (&mut answer, file.len(), lent.len());
+    // SAFETY: each pointer is valid for its length, and answer and room overlap nothing else that is in use.
+    unsafe {
         match question.call {
-            Call::Search => savuneco_search(file_at, file.len(), lent_at, lent.len()),
-            Call::Paused(k) => savuneco_paused(file_at, file.len(), k, lent_at, lent.len()),
+            Call::Search => savuneco_search(at, file_at, file_len, lent_at, lent_len),
+            Call::Paused(k) => savuneco_paused(at, file_at, file_len, k, lent_at, lent_len),
         }
     };
     Said { answer, room }
@@ -72,9 +92,7 @@ pub fn by_reference(file: &[u8], question: &Question) -> Said {
     let mut answer = Answer {
         steps: said.reply.steps(),
         number: said.reply.number(),
-        root: 0,
-        length: 0,
-        path: [0; 16],
+        ..Answer::NONE
     };
     if let Reply::Accepted { root, path, .. } = &said.reply {
         answer.root = *root as u8;
