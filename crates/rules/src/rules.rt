@@ -57,15 +57,15 @@ pub fn authority(head: Head) -> bool
 }
 
 // How many certificates a path length lets stand between this one and the leaf; no limit where there is none.
-pub fn limit(file: &[u8], head: Head, cert: Record) -> usize
+pub fn limit(file: &[u8], head: Head, cert: Record) -> u8
     ensures { λ r. ⌜ (head ≡ headOf cert (now (file .entry)) → r ≡ limitOf (certificateOf cert (now (file .entry)))) ⌝ }
 {
     let flags = head.flags;
     if flags / 16 % 2 == 1 {
-        return cert.extensions(file, flags).path_length;
+        return cert.extensions(file, flags).path_length as u8;
     }
     NO_LIMIT
 }
 
 // More certificates than a path can have.
-const NO_LIMIT: usize = 255;
+const NO_LIMIT: u8 = 255;

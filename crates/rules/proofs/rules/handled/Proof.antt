@@ -1,5 +1,4 @@
 -- `handled` answers whether flag 128 is not set. Assumes nothing.
-use mathlib.Core.Path.{refl}
 use Rattle.extensions.specs.Extensions.{flag}
 use Rattle.record.specs.Certificate.{certificateOf}
 use Rattle.rules.specs.Rules.{handled}
