@@ -9,10 +9,11 @@ use Rattle.fields.specs.Answers.{number}
 use Rattle.fields.specs.Fields.{Parsed, got, stop}
 use Rattle.fields.specs.declared.fault.Fault.{Fault}
 use Rattle.fields.specs.declared.fault.Fault.the-variants.{UnknownEdition, TooLong, CutShort, BadCount, BadValue, LeftOver}
-use Rattle.card.specs.Answers.{numberOf, answer}
+use Rattle.card.specs.Answers.{told as tells, numberOf, answer}
 use Rattle.card.specs.Card.{fileP}
 use Rattle.card.specs.Content.{contentOf, contentP}
 use Rattle.card.specs.declared.Card.{Card}
+use Rattle.card.specs.declared.Reading.{Reading}
 use Rattle.card.specs.declared.Outcome.the-variants.{Read, Stop}
 use Rattle.card.proofs.Sections.{CardRead, card-read}
 use Rattle.card.proofs.Stops.{WasRead, answered-read}
@@ -45,13 +46,13 @@ module _ {g h : Places} {w v : Roots} {k n m : ℕ} {before after : List ℕ} {a
       → Answered (Paused h v k before after a) (fault m (length before)) before after a
   same-pause b c d x = rw (b, c, d) at x
 
-module _ (s : List ℕ) (q : Question) (p : PutFrom s q) where
+module _ (s : List ℕ) (reading : Reading) (says : tells reading ≡ answer (fileP s)) where
   abbrev c : Card
-  c = p .card
+  c = reading .card
 
-  module _ (o : q .outcome ≡ Read) where
+  module _ (o : reading .outcome ≡ Read) (q : Question) (p : PutFrom s c q) where
     abbrev w : WasRead s c
-    w = answered-read s (record { outcome = q .outcome; card = c }) (p .read) o
+    w = answered-read s reading says o
 
     abbrev t : CardRead s c (w .end)
     t = card-read s c (w .end) (w .is)
@@ -98,15 +99,15 @@ module _ (s : List ℕ) (q : Question) (p : PutFrom s q) where
   number-some BadValue = omega arith
   number-some LeftOver = omega arith
 
-  pub unread : (f : Fault) → q .outcome ≡ Stop f → contentP s ≡ stop (number f)
+  pub unread : (f : Fault) → reading .outcome ≡ Stop f → contentP s ≡ stop (number f)
   unfolding contentP
-  unread f o = by-file (fileP s) refl (ap (λ (p : ℕ × Card). p .0) (p .read))
+  unread f o = by-file (fileP s) refl (ap (λ (p : ℕ × Card). p .0) says)
     where
-      by-file : (x : Parsed Card) → fileP s ≡ x → numberOf (q .outcome) ≡ answer x .0 → contentP s ≡ stop (number f)
+      by-file : (x : Parsed Card) → fileP s ≡ x → numberOf (reading .outcome) ≡ answer x .0 → contentP s ≡ stop (number f)
       by-file (got d e) k h = let z : number f ≡ 0 = ap numberOf (sym o) ∙ h in let n = number-some f in absurd (omega arith)
       by-file (stop r) k h = let z : number f ≡ r = ap numberOf (sym o) ∙ h in rw (k, z)
 
-  module _ (before : List ℕ) {a : Answer} (f : Fault) (o : q .outcome ≡ Stop f) (h : a .reply ≡ reply.Unread f) (i : a .path ≡ pathShown []) where
+  module _ (before : List ℕ) {a : Answer} (f : Fault) (o : reading .outcome ≡ Stop f) (h : a .reply ≡ reply.Unread f) (i : a .path ≡ pathShown []) where
     why : Stops (number f) before before a
     why = record { says = ap told h; shows = i; kept = refl }
 

@@ -1,19 +1,15 @@
--- What the private function promises: a file's question, put once in rows and judged places. Assumes nothing.
+-- What the private function promises: a card's question, put once in rows and judged places. Assumes nothing.
 use mathlib.Core.List.{List}
 use mathlib.Core.Path.{_≡_}
 use Prim.Native.Nat.{ℕ}
 use Rattle.certificates.specs.Certificates.{sizeOf}
-use Rattle.card.specs.Answers.{told, answer}
-use Rattle.card.specs.Card.{fileP}
 use Rattle.card.specs.declared.Card.{Card}
 use Rattle.issuing.specs.Records.{bundleRows, rootRows}
 use Rattle.policy.specs.Sound.{soundPlaces, placeLimits, rootsAbove, rootLimits}
 use Rattle.search.specs.declared.Question.{Question}
 
--- q was put from a card that was read from s, or tells why none can be
-pub record PutFrom (s : List ℕ) (q : Question) : Type 0 where
-  pub card : Card
-  pub read : told (record { outcome = q .outcome; card = card }) ≡ answer (fileP s)
+-- q was put from a card and the bytes of its file
+pub record PutFrom (s : List ℕ) (card : Card) (q : Question) : Type 0 where
   pub size : q .size ≡ sizeOf 16 (card .bundle .count)
   pub bundle : q .issuing .bundle ≡ bundleRows s (card .bundle) (card .verdicts)
   pub roots : q .issuing .roots ≡ rootRows s (card .roots) (card .bundle) (card .verdicts)

@@ -1,5 +1,6 @@
 // The checker: reads a card file and finds the first path that reaches a root under the policy, in lent room. Every file, budget and
 // room gets an answer.
+use card::Card;
 use card::Outcome;
 use card::read;
 use issuing::Issuing;
@@ -12,9 +13,8 @@ ghost use Rattle.card.specs.Content.{contentP};
 ghost use Rattle.search.specs.Question.{PutFrom};
 ghost use Rattle.search.specs.Search.{Search, Pause};
 
-// What a file asks, with each certificate compared and judged once; of no certificates where the file can't be read.
+// What a card asks, with each certificate compared and judged once.
 struct Question {
-    outcome: Outcome,
     size: u8,
     issuing: Issuing,
     judged: Judged,
@@ -25,10 +25,11 @@ struct Question {
 pub fn search(file: &[u8], room: &mut [u8]) -> Answer
     ensures { λ r. ⌜ Search (contentP (now (file .entry))) (now (room .entry)) (now (room .exit)) r ⌝ }
 {
-    let question = question_in(file);
-    let outcome = question.outcome;
+    let reading = read(file);
+    let outcome = reading.outcome;
     match outcome {
         Outcome::Read => {
+            let question = question_of(file, reading.card);
             return steps::search(
                 room,
                 question.size,
@@ -47,10 +48,11 @@ pub fn search(file: &[u8], room: &mut [u8]) -> Answer
 pub fn paused(file: &[u8], k: u64, room: &mut [u8]) -> Answer
     ensures { λ r. ⌜ Pause (contentP (now (file .entry))) k (now (room .entry)) (now (room .exit)) r ⌝ }
 {
-    let question = question_in(file);
-    let outcome = question.outcome;
+    let reading = read(file);
+    let outcome = reading.outcome;
     match outcome {
         Outcome::Read => {
+            let question = question_of(file, reading.card);
             return steps::paused(room, question.size, question.issuing, question.judged, k);
         }
         Outcome::Stop(fault) => {
@@ -59,15 +61,11 @@ pub fn paused(file: &[u8], k: u64, room: &mut [u8]) -> Answer
     }
 }
 
-// The question in a file.
-fn question_in(file: &[u8]) -> Question
-    ensures { λ r. ⌜ PutFrom (now (file .entry)) r ⌝ }
+// A card's question: the certificates that the card places in the file, compared and judged.
+fn question_of(file: &[u8], card: Card) -> Question
+    ensures { λ r. ⌜ PutFrom (now (file .entry)) card r ⌝ }
 {
-    let reading = read(file);
-    let outcome = reading.outcome;
-    let card = reading.card;
     Question {
-        outcome,
         size: card.bundle.size(),
         issuing: who_issued(file, card),
         judged: judge(file, card.task.now, card),

@@ -1,4 +1,5 @@
 pub mod Columns
+pub mod Pass
 pub mod Pinned
 pub mod Product
 pub mod Rows

@@ -1,12 +1,15 @@
--- The verdicts and their count, which must be the product of issuers and subjects: how large it can be, and one law for each answer of
--- `verdicts_after` where the bundle ends. Assumes nothing.
+-- The verdicts and their count, which must be the product of issuers and subjects: how large it can be, where the verdicts begin, and
+-- one law for each answer of `verdicts_after` where the bundle ends. Assumes nothing.
 use Prim.Native.Nat.{ℕ, _+_, _*_, _<_, _≤_}
 use mathlib.Core.Path.{_≡_, sym, _∙_}
 use mathlib.Core.List.{List}
 use native.Mathlib.Omega.{arith}
 use native.Mathlib.Nat.{mul-le-mul}
-use borrow.Author.Tests.{eq-eqb, ne-eqb}
+use lib.Dec.{leb}
+use lib.ListN.{length}
+use borrow.Author.Tests.{leb-true, eq-eqb, ne-eqb}
 use Rattle.fields.specs.Fields.{got, stop, after, bigP, many}
+use Rattle.fields.proofs.After.{judged-got, got-is}
 use Rattle.verdicts.specs.Verdicts.{verdictP, verdictsP}
 
 -- rows for two counts of a byte each, and columns for one
@@ -14,6 +17,13 @@ pub few : (rows columns : ℕ) → rows ≤ 510 → columns < 256 → rows * col
 few rows columns r c =
     let k : columns ≤ 255 = omega arith in
     mul-le-mul r k
+
+-- the verdicts begin within the file, since their count stands before them
+pub begins-within : (s : List ℕ) (at n e : ℕ) → bigP 2 s at ≡ got n e → e ≤ length s
+unfolding bigP
+begins-within s at n e h =
+    let judged = judged-got (leb (at + 2) (length s)) _ 6 h in
+    got-is (λ _ e. e ≤ length s) (judged .1) (leb-true _ _ (judged .0))
 
 module _ (roots bundle : ℕ) (s : List ℕ) (at : ℕ) where
   pub uncounted : (r : ℕ) → bigP 2 s at ≡ stop r → verdictsP roots bundle s at ≡ stop r

@@ -2,17 +2,17 @@
 // They are read where the bundle ends; what certificates stand at these places is left to the crates above.
 use certificates::BundlePlace;
 use certificates::RootPlace;
-use fields::CountAt;
 use fields::Fault;
 use fields::NumberAt;
 use fields::Past;
-use fields::byte_at;
 use fields::u16_at;
 ghost use mathlib.Core.Path.{_≡_};
 ghost use Prim.Native.Nat.{_+_, _*_, _≤_};
+ghost use lib.ListN.{length};
 ghost use Rattle.fields.specs.Fields.{got, stop, after, many};
-ghost use Rattle.fields.specs.Answers.{number, passed, passing, held, Emptied};
+ghost use Rattle.fields.specs.Answers.{number, passed, held, Emptied};
 ghost use Rattle.verdicts.specs.Verdicts.{verdictP, verdictsP, fresh-verdicts, signedAt, rootSigned, bundleSigned};
+ghost use Rattle.verdicts.specs.Parts.{anyAboveYes};
 
 // Verdicts on so many roots and so large a bundle, from the first one on.
 pub struct Verdicts {
@@ -124,48 +124,42 @@ pub fn verdicts_after(file: &[u8], past: Past, roots: u8, bundle: u8) -> Verdict
     }
 }
 
-// n verdicts from the first on.
+// n verdicts from the first on. Where the file ends too early, a bad value among those that are there is still the first fault.
 fn verdict_rows(file: &[u8], verdicts: Verdicts, n: usize) -> VerdictsRead
+    requires { ⌜ verdicts .first ≤ length (now file) ⌝ }
     ensures { λ r. ⌜ held (r .past) (r .verdicts) ≡ after (many verdictP n (now (file .entry)) (verdicts .first)) (λ _ e. got verdicts e) ⌝ }
     ensures { λ r. ⌜ Emptied (r .past) (r .verdicts) fresh-verdicts ⌝ }
 {
-    let mut at = verdicts.first;
-    let mut left = n;
-    while 0 < left {
-        match verdict_at(file, at) {
-            Past::Got(next) => {
-                at = next;
-                left -= 1;
-            }
-            Past::Stop(fault) => {
-                return no_verdicts(fault);
-            }
-        }
+    let first = verdicts.first;
+    let left = file.len() - first;
+    let mut there = n;
+    if left < n {
+        there = left;
+    }
+    let end = first + there;
+    if any_above_yes(&file[first..end]) {
+        return no_verdicts(Fault::BadValue);
+    }
+    if there < n {
+        return no_verdicts(Fault::CutShort);
     }
     VerdictsRead {
-        past: Past::Got(at),
+        past: Past::Got(end),
         verdicts,
     }
 }
 
-// A verdict is a bad value above yes, judged when it is read.
-fn verdict_at(file: &[u8], at: usize) -> Past
-    ensures { λ r. ⌜ passed r ≡ passing (verdictP (now (file .entry)) at) ⌝ }
+// Whether a byte is more than a yes. The loop does not stop at one, so that the compiler can judge many bytes at once.
+fn any_above_yes(bytes: &[u8]) -> bool
+    ensures { λ r. ⌜ r ≡ anyAboveYes (now (bytes .entry)) ⌝ }
 {
-    match byte_at(file, at) {
-        CountAt::Got {
-            count: verdict,
-            next,
-        } => {
-            if Verdicts::YES < verdict {
-                return Past::Stop(Fault::BadValue);
-            }
-            return Past::Got(next);
-        }
-        CountAt::Stop(fault) => {
-            return Past::Stop(fault);
-        }
+    let mut bad = false;
+    let mut i: usize = 0;
+    while i < bytes.len() {
+        bad = bad | (Verdicts::YES < bytes[i] as usize);
+        i += 1;
     }
+    bad
 }
 
 fn no_verdicts(fault: Fault) -> VerdictsRead

@@ -1,74 +1,88 @@
--- `verdict_rows` answers its verdicts where so many of them are read, or the first fault. The invariant: what is left to pass ends where
--- all of them do. Assumes nothing.
+-- `verdict_rows` answers its verdicts where so many of them are there and none is above yes, or the first fault. Assumes nothing.
+use Prim.Native.Nat.{_+_, _≤_}
 use borrow.Author.Needs.{needs}
-use mathlib.Core.Path.{refl, sym, ap, _∙_}
+use native.Mathlib.Omega.{arith}
+use mathlib.Core.Logic.{⊎-elim}
+use mathlib.Core.Path.{_≡_, sym, _∙_}
+use lib.ListN.{length}
 use Rattle.fields.specs.Fields.{many}
-use Rattle.fields.specs.Answers.{passed, held}
+use Rattle.fields.specs.Answers.{held}
+use Rattle.fields.specs.declared.fault.Fault.the-variants.{CutShort, BadValue}
 use Rattle.fields.specs.declared.Past.the-variants.{Got, Stop}
 use Rattle.fields.proofs.Held.{held-after}
-use Rattle.lists.proofs.Rows.{Left, row-next, row-stops, row-ends}
 use Rattle.verdicts.specs.Verdicts.{verdictP}
+use Rattle.verdicts.proofs.Pass.{rows-bad, rows-cut, rows-got}
 use Rattle.verdicts.proofs.verdict_rows.Statement.{statement}
 use Rattle.verdicts.proofs.verdict_rows.Tie as tie
 
-abbrev Inv-loop : tie.InvT-loop
-Inv-loop file verdicts n at₀ left₀ at left = Left verdictP file (verdicts .first) n at left
-
-abbrev μ-loop : tie.MeasureT-loop
-μ-loop file verdicts n at₀ left₀ at left = left
-
-loop-holds : tie.Need-loop-holds Inv-loop μ-loop
-loop-holds c = refl
-
-verdict-at-requires : tie.Need-verdict-at-requires Inv-loop μ-loop
-verdict-at-requires c κs = search needs
-
-enum-known-next : tie.Need-enum-known-next Inv-loop μ-loop
-enum-known-next c = search needs
-
-sub-left : tie.Need-sub-left Inv-loop μ-loop
+sub-left : tie.Need-sub-left
 sub-left c = search needs
 
-loop-less : tie.Need-loop-less Inv-loop μ-loop
-loop-less c = search needs
+add-end : tie.Need-add-end
+add-end c = ⊎-elim (λ w. omega arith) (λ w. omega arith) (c .before .if1 .came)
 
-loop-again : tie.Need-loop-again Inv-loop μ-loop
-loop-again c =
-    let a = c .before .before .before in
-    let q = sym (a .verdict-at .ensures) ∙ ap passed (c .before .next .given .1) in
-    row-next _ _ _ _ _ _ _ (a .before .before .loop .inv) (a .before .loop-test .taken) q
+sub-any-above-yes : tie.Need-sub-any-above-yes
+sub-any-above-yes c = search needs
 
-enum-known-fault : tie.Need-enum-known-fault Inv-loop μ-loop
-enum-known-fault c = search needs
+part-any-above-yes-start : tie.Need-part-any-above-yes-start
+part-any-above-yes-start c = search needs
 
-no-verdicts-requires : tie.Need-no-verdicts-requires Inv-loop μ-loop
+part-any-above-yes-end : tie.Need-part-any-above-yes-end
+part-any-above-yes-end c = ⊎-elim (λ w. omega arith) (λ w. omega arith) (c .before .if1 .came)
+
+any-above-yes-requires : tie.Need-any-above-yes-requires
+any-above-yes-requires c κs = search needs
+
+no-verdicts-requires : tie.Need-no-verdicts-requires
 no-verdicts-requires c κs = search needs
 
-returns : tie.Need-returns Inv-loop μ-loop
+returns : tie.Need-returns
 unfolding held
 returns c =
-    let f = c .before .before in
-    let a = f .before .before in
-    let q = sym (a .verdict-at .ensures) ∙ ap passed (f .fault .given .1) in
-    let stops = row-stops _ _ _ _ _ _ _ (a .before .before .loop .inv) (a .before .loop-test .taken) q in
-    (c .no-verdicts .ensures .0 ∙ held-after (Stop (f .fault .given .0 .0)) _ (many verdictP _ _ _) stops, c .no-verdicts .ensures .1)
+    let t = c .before .before in
+    let j = t .before .before .before in
+    let few : j .if1 .there ≤ j .before .before .args .n = ⊎-elim (λ w. omega arith) (λ w. omega arith) (j .if1 .came) in
+    let found = sym (t .any-above-yes .ensures) ∙ c .before .if2 .taken in
+    let bad = rows-bad _ (λ i. j .before .shared-slice-known .given i .fits) _ (j .if1 .there) _ (omega arith) few found in
+    (c .no-verdicts .ensures .0 ∙ held-after (Stop BadValue) _ (many verdictP _ _ _) bad, c .no-verdicts .ensures .1)
 
-returns-2 : tie.Need-returns-2 Inv-loop μ-loop
-returns-2 c = (held-after (Got _) _ (many verdictP _ _ _) (row-ends _ _ _ _ _ _ (c .before .loop .inv) (c .loop-test .left)), tt)
+no-verdicts-requires-2 : tie.Need-no-verdicts-requires-2
+no-verdicts-requires-2 c κs = search needs
+
+returns-2 : tie.Need-returns-2
+unfolding held
+returns-2 c =
+    let t = c .before .before .before in
+    let j = t .before .before .before in
+    let a = j .before .before .args in
+    let ends : a .verdicts .first + j .if1 .there ≡ length (a .file .now) = ⊎-elim (λ w. omega arith) (λ w. omega arith) (j .if1 .came) in
+    let none = sym (t .any-above-yes .ensures) ∙ c .before .before .if2 .left in
+    let cut = rows-cut _ (λ i. j .before .shared-slice-known .given i .fits) _ (j .if1 .there) _ ends (c .before .if3 .taken) none in
+    (c .no-verdicts2 .ensures .0 ∙ held-after (Stop CutShort) _ (many verdictP _ _ _) cut, c .no-verdicts2 .ensures .1)
+
+returns-3 : tie.Need-returns-3
+returns-3 c =
+    let t = c .before .before in
+    let j = t .before .before .before in
+    let a = j .before .before .args in
+    let ends : a .verdicts .first + j .if1 .there ≤ length (a .file .now) = ⊎-elim (λ w. omega arith) (λ w. omega arith) (j .if1 .came) in
+    let all : j .if1 .there ≡ a .n = ⊎-elim (λ w. omega arith) (λ w. omega arith) (j .if1 .came) in
+    let none = sym (t .any-above-yes .ensures) ∙ c .before .if2 .left in
+    let good = rows-got _ (λ i. j .before .shared-slice-known .given i .fits) _ (j .if1 .there) _ ends all none in
+    (held-after (Got _) _ (many verdictP _ _ _) good, tt)
 
 pub verdict-rows-spec : {M : Type 1} → statement M
 verdict-rows-spec =
     tie.close
     (tie.spec
-    Inv-loop
-    μ-loop
-    loop-holds
-    verdict-at-requires
-    enum-known-next
     sub-left
-    loop-less
-    loop-again
-    enum-known-fault
+    add-end
+    sub-any-above-yes
+    part-any-above-yes-start
+    part-any-above-yes-end
+    any-above-yes-requires
     no-verdicts-requires
     returns
-    returns-2)
+    no-verdicts-requires-2
+    returns-2
+    returns-3)

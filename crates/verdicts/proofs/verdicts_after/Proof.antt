@@ -2,7 +2,7 @@
 use borrow.Author.Needs.{needs}
 use mathlib.Core.Path.{sym, ap, _∙_}
 use Rattle.fields.specs.Answers.{numbered, passed}
-use Rattle.verdicts.proofs.Product.{uncounted, miscounted, all-read}
+use Rattle.verdicts.proofs.Product.{begins-within, uncounted, miscounted, all-read}
 use Rattle.verdicts.proofs.verdicts_after.Statement.{statement}
 use Rattle.verdicts.proofs.verdicts_after.Tie as tie
 
@@ -19,7 +19,9 @@ asked-requires : tie.Need-asked-requires
 asked-requires c κs = search needs
 
 verdict-rows-requires : tie.Need-verdict-rows-requires
-verdict-rows-requires c κs = search needs
+verdict-rows-requires c κs =
+    let v = c .before .before .before in
+    begins-within _ _ _ _ (sym (v .before .before .u16-at .ensures) ∙ ap numbered (v .value .given .1))
 
 returns : tie.Need-returns
 returns c =
