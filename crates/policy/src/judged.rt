@@ -2,6 +2,7 @@
 use card::Bundle;
 use card::BundlePlace;
 use card::Card;
+use card::RootPlace;
 use card::Roots;
 use extensions::Extensions;
 use fields::part;
@@ -29,13 +30,13 @@ ghost use Rattle.policy.specs.Sound.{leafSoundAt, betweenSound, topSound
 // between it and the leaf.
 pub struct Between {
     pub sound: u64,
-    pub limits: [usize; Bundle::MOST],
+    pub limits: [u8; Bundle::MOST],
 }
 
 // The same of the roots; none may stand above where the leaf is not sound.
 pub struct Above {
     pub sound: u64,
-    pub limits: [usize; Roots::MOST],
+    pub limits: [u8; Roots::MOST],
 }
 
 pub struct Judged {
@@ -118,16 +119,15 @@ fn top_sound(time: u64, head: Head) -> bool
     false
 }
 
-// A record is read where it stands in the array: fetched by its place, all of them would be copied each turn.
 fn places_between(file: &[u8], time: u64, bundle: Bundle) -> Between
     ensures { λ r. ⌜ (r .sound ≡ soundPlaces (now (file .entry)) time bundle) × (r .limits ≡ placeLimits (now (file .entry)) bundle) ⌝ }
 {
     let n = bundle.size();
     let mut sound: u64 = 0;
-    let mut limits = [0usize; Bundle::MOST];
+    let mut limits = [0u8; Bundle::MOST];
     let mut i: u8 = 0;
     while i < n {
-        let record = bundle.records[i as usize];
+        let record = bundle.record(BundlePlace(i));
         let head = record.head(file);
         limits[i as usize] = limit(file, head, record);
         if between_sound(file, time, head, record) {
@@ -143,10 +143,10 @@ fn roots_above(file: &[u8], time: u64, roots: Roots) -> Above
 {
     let n = roots.size();
     let mut sound: u64 = 0;
-    let mut limits = [0usize; Roots::MOST];
+    let mut limits = [0u8; Roots::MOST];
     let mut i: u8 = 0;
     while i < n {
-        let record = roots.records[i as usize];
+        let record = roots.record(RootPlace(i));
         let head = record.head(file);
         limits[i as usize] = limit(file, head, record);
         if top_sound(time, head) {
