@@ -20,8 +20,7 @@ ghost use mathlib.Core.List.{List};
 ghost use mathlib.Core.Path.{_≡_};
 ghost use Prim.Native.Nat.{ℕ};
 ghost use mathlib.Core.Bool.{_&&_};
-ghost use Rattle.record.specs.Certificate.{certificateOf};
-ghost use Rattle.record.specs.Parts.{headOf};
+ghost use Rattle.record.specs.Certificate.{certificateBy};
 ghost use Rattle.record.specs.declared.Record.{Record};
 ghost use Rattle.rules.specs.Records.{forServersAt, forHostAt};
 ghost use Rattle.policy.specs.Sound.{leafSoundAt, betweenSound, topSound, soundPlaces, placeLimits, soundRoots, rootLimits, rootsAbove};
@@ -95,7 +94,7 @@ fn leaf_serves(file: &[u8], host: &[u8], extensions: Extensions) -> bool
 
 // What is asked of a certificate between leaf and root, its path length aside.
 fn between_sound(file: &[u8], time: u64, head: Head, cert: Record) -> bool
-    ensures { λ r. ⌜ (head ≡ headOf cert (now (file .entry)) → r ≡ betweenSound time (certificateOf cert (now (file .entry)))) ⌝ }
+    ensures { λ r. ⌜ r ≡ betweenSound time (certificateBy head cert (now (file .entry))) ⌝ }
 {
     if in_date(time, head) {
         if well_formed(file, head, cert) {
@@ -109,7 +108,7 @@ fn between_sound(file: &[u8], time: u64, head: Head, cert: Record) -> bool
 
 // What is asked of a root, its path length aside.
 fn top_sound(time: u64, head: Head) -> bool
-    ensures { λ r. ⌜ ((cert : Record) (s : List ℕ) → head ≡ headOf cert s → r ≡ topSound time (certificateOf cert s)) ⌝ }
+    ensures { λ r. ⌜ ((cert : Record) (s : List ℕ) → r ≡ topSound time (certificateBy head cert s)) ⌝ }
 {
     if in_date(time, head) {
         if handled(head) {

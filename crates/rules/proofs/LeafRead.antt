@@ -1,10 +1,8 @@
 -- What is asked of the leaf by the rows of its record is what is asked of the certificate, where the record stands in the file:
 -- usages (`for-servers-read`) and the host (`for-host-read`). Assumes nothing.
-use Prim.Native.Nat.{ℕ, _≤_}
+use Prim.Native.Nat.{ℕ}
 use mathlib.Core.Path.{_≡_}
 use mathlib.Core.List.{List}
-use lib.ListN.{length}
-use borrow.Author.Tests.{le-leb}
 use Rattle.lists.specs.Lists.{usageP, dnsNameP}
 use Rattle.record.specs.Certificate.{certificateOf}
 use Rattle.record.specs.Parts.{headOf, extensionsOf}
@@ -21,9 +19,8 @@ module _ (s : List ℕ) (r : Record) (e : ℕ) (t : RecordRead s r e) where
       let u = extensions-read-of s r e t .usages in
       rw (extensions-of s r e t, says-usages s r e t, u .as-many, any-read serving usageP s 8 (t .extensions-are .usages) _ u)
 
-  -- a host of a card file has at most 253 bytes
-  pub for-host-read : (host : List ℕ) → length host ≤ 253 → forHostAt s host (extensionsOf (headOf r s .flags) r s .«dns_names») ≡ forHost host (certificateOf r s)
+  pub for-host-read : (host : List ℕ) → forHostAt s host (extensionsOf (headOf r s .flags) r s .«dns_names») ≡ forHost host (certificateOf r s)
   unfolding forHostAt forHost
-  for-host-read host h =
+  for-host-read host =
       let d = extensions-read-of s r e t .dns-names in
-      rw (extensions-of s r e t, says-dns-names s r e t, le-leb (length host) 253 h, any-read (names host) dnsNameP s 32 (t .extensions-are .«dns_names») _ d)
+      rw (extensions-of s r e t, says-dns-names s r e t, any-read (names host) dnsNameP s 32 (t .extensions-are .«dns_names») _ d)

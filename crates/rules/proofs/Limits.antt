@@ -1,28 +1,41 @@
--- A certificate's limit: its path length where flag 16 is set (`limit-given`), and else none (`no-limit`). Of as many certificates as a
--- path can have it says what the path length allows (`limit-allows`). Assumes nothing.
+-- A certificate's limit: its path length where flag 16 is set (`limit-given`), and else none (`no-limit`). A path length is a byte
+-- (`path-length-byte`). Of as many certificates as a path can have the limit says what the path length allows (`limit-allows`).
+-- Assumes nothing.
 use Prim.Native.Nat.{ℕ, _/_, _%_, _≤_}
 use mathlib.Core.Path.{_≡_, refl}
 use mathlib.Core.List.{List}
 use mathlib.Core.Option.{Option, none, some}
+use native.Mathlib.Omega.{arith}
 use lib.Dec.{leb}
 use borrow.Author.Tests.{eq-eqb, ne-eqb, le-leb}
-use Rattle.extensions.specs.Extensions.{flag}
-use Rattle.record.specs.Certificate.{Certificate, certificateOf}
-use Rattle.record.specs.Parts.{headOf, extensionsOf}
+use Rattle.fields.specs.Fields.{Parsed, got, stop}
+use Rattle.extensions.specs.Extensions.{flag, extensionsP}
+use Rattle.record.specs.Certificate.{Certificate, certificateBy}
+use Rattle.record.specs.Parts.{valueOr, extensionsOf}
+use Rattle.record.specs.Fresh.{no-extensions}
+use Rattle.extensions.proofs.Meaning.{extensions-read}
 use Rattle.record.specs.declared.head.Head.{Head}
 use Rattle.extensions.specs.declared.Extensions.{Extensions}
 use Rattle.record.specs.declared.Record.{Record}
 use Rattle.rules.specs.Rules.{atMost, allows}
 use Rattle.rules.specs.Limits.{orNoLimit, limitOf}
 
-module _ (r : Record) (s : List ℕ) (head : Head) (h : head ≡ headOf r s) where
-  pub limit-given : head .flags / 16 % 2 ≡ 1 → (x : Extensions) → x ≡ extensionsOf (head .flags) r s → x .«path_length» ≡ limitOf (certificateOf r s)
-  unfolding limitOf certificateOf flag
-  limit-given f x q = rw (← h, eq-eqb (head .flags / 16 % 2) 1 f, q)
+module _ (r : Record) (s : List ℕ) (head : Head) where
+  pub limit-given : head .flags / 16 % 2 ≡ 1 → (x : Extensions) → x ≡ extensionsOf (head .flags) r s → x .«path_length» ≡ limitOf (certificateBy head r s)
+  unfolding limitOf certificateBy flag
+  limit-given f x q = rw (eq-eqb (head .flags / 16 % 2) 1 f, q)
 
-  pub no-limit : (head .flags / 16 % 2 ≡ 1 → ⊥) → 255 ≡ limitOf (certificateOf r s)
-  unfolding limitOf certificateOf flag
-  no-limit f = rw (← h, ne-eqb (head .flags / 16 % 2) 1 f)
+  pub no-limit : (head .flags / 16 % 2 ≡ 1 → ⊥) → 255 ≡ limitOf (certificateBy head r s)
+  unfolding limitOf certificateBy flag
+  no-limit f = rw (ne-eqb (head .flags / 16 % 2) 1 f)
+
+-- a path length is a byte, and 0 where it can't be read
+pub path-length-byte : (flags : ℕ) (r : Record) (s : List ℕ) (x : Extensions) → x ≡ extensionsOf flags r s → x .«path_length» ≤ 255
+unfolding extensionsOf
+path-length-byte flags r s x q = rw q (go (extensionsP flags s (r .rest)) refl) where
+  go : (p : Parsed Extensions) → extensionsP flags s (r .rest) ≡ p → valueOr no-extensions p .«path_length» ≤ 255
+  go (got y e) h = extensions-read flags s (r .rest) y e h .path-length
+  go (stop fault) h = omega arith
 
 limit-says : (n : ℕ) (p : Option ℕ) → n ≤ 255 → leb n (orNoLimit p) ≡ atMost n p
 limit-says n none h = le-leb n 255 h

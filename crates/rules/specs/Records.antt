@@ -1,9 +1,9 @@
 -- What Rules asks of the leaf's usages and DNS names, asked of a record's rows as they are, whether a reader made them or not. Assumes
 -- nothing.
 use Prim.Native.Nat.{ℕ, zero, suc}
-use mathlib.Core.Bool.{Bool, false, _&&_, _||_}
+use mathlib.Core.Bool.{Bool, false, _||_}
 use mathlib.Core.List.{List}
-use lib.Dec.{eqb, leb}
+use lib.Dec.{eqb}
 use lib.ListN.{length}
 use Rattle.fields.specs.Fields.{Parsed, got, stop}
 use Rattle.lists.specs.Lists.{usageP, dnsNameP}
@@ -23,7 +23,5 @@ anyOf test p (suc n) s at = passes test (p s at) (λ e. anyOf test p n s e)
 unfoldable pub forServersAt : List ℕ → Row → Bool
 forServersAt s usages = eqb (usages .count) 0 || anyOf serving usageP (usages .count) s (usages .first)
 
--- a host of more than 253 bytes is no one's
 unfoldable pub forHostAt : List ℕ → List ℕ → Row → Bool
-forHostAt s host dns =
-    eqb (length host) 0 || (leb (length host) 253 && anyOf (names host) dnsNameP (dns .count) s (dns .first))
+forHostAt s host dns = eqb (length host) 0 || anyOf (names host) dnsNameP (dns .count) s (dns .first)

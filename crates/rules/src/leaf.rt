@@ -1,21 +1,14 @@
 // What is asked of the leaf alone: that it is for servers, and for the host.
-use card::Host;
 use fields::CountAt;
 use fields::StringAt;
 use fields::part;
 use lists::Row;
 use lists::dns_name_at;
 use lists::usage_at;
-use text::lower;
-use text::match_name;
-ghost use mathlib.Core.List.{map};
+use text::match_lowered;
 ghost use mathlib.Core.Path.{_≡_};
-ghost use Prim.Native.Nat.{_≤_};
-ghost use lib.ListN.{length, take};
 ghost use Rattle.lists.specs.Lists.{usageP, dnsNameP};
-ghost use Rattle.text.specs.Wildcard.{matchName};
-ghost use Rattle.text.specs.Bytes.{lowered};
-ghost use Rattle.rules.specs.Rules.{serving};
+ghost use Rattle.rules.specs.Rules.{serving, names};
 ghost use Rattle.rules.specs.Records.{anyOf, forServersAt, forHostAt};
 
 // Usages: none listed, or server or any among them.
@@ -68,28 +61,22 @@ fn serving(usage: usize) -> bool
 pub fn for_host(file: &[u8], host: &[u8], dns: Row) -> bool
     ensures { λ r. ⌜ r ≡ forHostAt (now (file .entry)) (now (host .entry)) dns ⌝ }
 {
-    let n = host.len();
-    let listed = dns.count;
-    if n == 0 {
+    if host.len() == 0 {
         return true;
     }
-    if Host::MOST < n {
-        return false;
-    }
-    let asked = lowered(host);
-    any_names(file, &asked[..n], dns.first, listed)
+    any_names(file, host, dns.first, dns.count)
 }
 
-// One of n DNS names matches the lowered host.
-fn any_names(file: &[u8], asked: &[u8], first: usize, n: usize) -> bool
-    ensures { λ r. ⌜ r ≡ anyOf (λ dns. matchName (map lowered dns) (now (asked .entry))) dnsNameP n (now (file .entry)) first ⌝ }
+// One of n DNS names matches the host.
+fn any_names(file: &[u8], host: &[u8], first: usize, n: usize) -> bool
+    ensures { λ r. ⌜ r ≡ anyOf (names (now (host .entry))) dnsNameP n (now (file .entry)) first ⌝ }
 {
     let mut at = first;
     let mut left = n;
     while 0 < left {
         match dns_name_at(file, at) {
             StringAt::Got(name) => {
-                if matches(part(file, name), asked) {
+                if match_lowered(part(file, name), host) {
                     return true;
                 }
                 at = name.end;
@@ -101,30 +88,4 @@ fn any_names(file: &[u8], asked: &[u8], first: usize, n: usize) -> bool
         }
     }
     false
-}
-
-// A DNS name, lowered, matches the lowered host.
-fn matches(dns: &[u8], asked: &[u8]) -> bool
-    requires { ⌜ length (now dns) ≤ 253 ⌝ }
-    ensures { λ r. ⌜ r ≡ matchName (map lowered (now (dns .entry))) (now (asked .entry)) ⌝ }
-{
-    let n = dns.len();
-    let pattern = lowered(dns);
-    match_name(&pattern[..n], asked)
-}
-
-// A name's bytes lowered, and zeros after them.
-fn lowered(name: &[u8]) -> [u8; Host::MOST]
-    requires { ⌜ length (now name) ≤ 253 ⌝ }
-    ensures { λ r. ⌜ take (length (now (name .entry))) r ≡ map lowered (now (name .entry)) ⌝ }
-{
-    let mut out = [0u8; Host::MOST];
-    let mut i: usize = 0;
-    while i < name.len() {
-        let byte = name[i];
-        let low = lower(byte);
-        out[i] = low;
-        i += 1;
-    }
-    out
 }

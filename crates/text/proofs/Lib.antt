@@ -1,4 +1,5 @@
 pub mod Lowered
+pub mod Lowering
 pub mod Same
 pub mod Form
 pub mod Star

@@ -1,13 +1,13 @@
 -- `same` is equality (`same-sound`, `same-refl`); the laws of byte strings compared, as the loops and returns of `src/bytes.rt` need
 -- them; and what `&l[k..]` reads. Assumes nothing.
 use Prim.Native.Nat.{ℕ, _+_, _-_, _<_, _≤_}
-use mathlib.Core.Path.{_≡_, refl, sym, _∙_}
+use mathlib.Core.Path.{_≡_, refl, sym, ap, _∙_}
 use mathlib.Core.Bool.{Bool, true, false, _&&_, and-true, and-assoc, false≢true}
-use mathlib.Core.List.{List, [], _∷_}
+use mathlib.Core.List.{List, [], _∷_, map}
 use native.Mathlib.Numerals.{add-one}
 use native.Mathlib.Omega.{arith}
 use lib.Dec.{eqb}
-use lib.ListN.{length, getD, take, drop, length-drop, drop-of-length-le}
+use lib.ListN.{length, getD, take, drop, length-drop, length-map, drop-of-length-le}
 use lib.Seq.{drop-cons, take-all}
 use borrow.Author.Tests.{eqb-true, eq-eqb, ne-eqb, le-leb, lt-leb}
 use Rattle.text.specs.Bytes.{same, hasByte, startsWith, endsWith}
@@ -37,22 +37,28 @@ differ a b n = go (same a b) refl where
   go true e = absurd (n (same-sound a b e))
   go false e = refl
 
--- two strings of one length, and whether their first i bytes are the same
-pub record AlikeTo (a b : List ℕ) (alike : Bool) (i : ℕ) : Type 0 where
-  pub long : length a ≡ length b
-  pub is : same a b ≡ (alike && same (drop i a) (drop i b))
+-- ---- two strings compared byte by byte, each byte as f has it
 
-module _ (a b : List ℕ) where
-  pub alike-starts : length a ≡ length b → AlikeTo a b true 0
+-- two strings of one length, and whether their first i bytes are the same
+pub record AlikeTo (f : ℕ → ℕ) (a b : List ℕ) (alike : Bool) (i : ℕ) : Type 0 where
+  pub long : length a ≡ length b
+  pub is : same (map f a) (map f b) ≡ (alike && same (map f (drop i a)) (map f (drop i b)))
+
+module _ (f : ℕ → ℕ) (a b : List ℕ) where
+  pub lengths-differ : (length a ≡ length b → ⊥) → false ≡ same (map f a) (map f b)
+  lengths-differ n = sym (differ _ _ (λ e. n (sym (length-map a f) ∙ ap length e ∙ length-map b f)))
+
+  pub alike-starts : length a ≡ length b → AlikeTo f a b true 0
   alike-starts long = record { long = long; is = refl }
 
-  pub alike-next : (alike : Bool) (i : ℕ) → AlikeTo a b alike i → i < length a → AlikeTo a b (alike && eqb (getD a i 0) (getD b i 0)) (i + 1)
+  pub alike-next : (alike : Bool) (i : ℕ) → AlikeTo f a b alike i → i < length a → (x y : ℕ) → x ≡ f (getD a i 0) → y ≡ f (getD b i 0)
+      → AlikeTo f a b (alike && eqb x y) (i + 1)
   unfolding same
-  alike-next alike i t p =
+  alike-next alike i t p x y v w =
       let q : i < length b = omega (arith, t .long) in
-      record { long = t .long; is = t .is ∙ rw (add-one, drop-cons a i 0, drop-cons b i 0) (sym (and-assoc alike _ _)) }
+      record { long = t .long; is = t .is ∙ rw (v, w, add-one, drop-cons a i 0, drop-cons b i 0) (sym (and-assoc alike _ _)) }
 
-  pub alike-ends : (alike : Bool) (i : ℕ) → AlikeTo a b alike i → length a ≤ i → alike ≡ same a b
+  pub alike-ends : (alike : Bool) (i : ℕ) → AlikeTo f a b alike i → length a ≤ i → alike ≡ same (map f a) (map f b)
   unfolding same
   alike-ends alike i t p =
       let q : length b ≤ i = omega (arith, t .long) in
@@ -83,10 +89,6 @@ module _ (s r : List ℕ) where
   pub starts-long : length r ≤ length s → startsWith s r ≡ same (take (length r) s) r
   unfolding startsWith
   starts-long h = rw (le-leb _ _ h)
-
-  pub ends-short : length s < length r → endsWith s r ≡ false
-  unfolding endsWith
-  ends-short h = rw (lt-leb _ _ h)
 
   pub ends-long : length r ≤ length s → endsWith s r ≡ same (drop (length s - length r) s) r
   unfolding endsWith

@@ -9,6 +9,10 @@ use lib.Dec.{leb, eqb}
 unfoldable pub lowered : ℕ → ℕ
 lowered b = cond (leb 65 b && leb b 90) (b + 32) b
 
+-- a byte as it is compared: lowered where that is asked
+abbrev pub loweredIf : Bool → ℕ → ℕ
+loweredIf lowering b = cond lowering (lowered b) b
+
 -- the same bytes
 unfoldable pub same : List ℕ → List ℕ → Bool
 same [] [] = true

@@ -1,6 +1,7 @@
 // Single bytes, and byte strings compared.
+ghost use mathlib.Core.List.{map};
 ghost use mathlib.Core.Path.{_≡_};
-ghost use Rattle.text.specs.Bytes.{lowered, same, hasByte, startsWith, endsWith};
+ghost use Rattle.text.specs.Bytes.{lowered, loweredIf, same, hasByte, startsWith};
 
 // A to Z gain 32.
 pub fn lower(b: u8) -> u8
@@ -15,9 +16,27 @@ pub fn lower(b: u8) -> u8
     b + 32
 }
 
-// Whether a and b hold the same bytes. The loop does not stop at a difference, so that the compiler can compare many bytes at once.
+// A byte as it is compared: lowered where that is asked.
+fn lower_if(b: u8, lowering: bool) -> u8
+    ensures { λ r. ⌜ r ≡ loweredIf lowering b ⌝ }
+{
+    if lowering {
+        return lower(b);
+    }
+    b
+}
+
+// Whether a and b hold the same bytes.
 pub fn equal(a: &[u8], b: &[u8]) -> bool
     ensures { λ r. ⌜ r ≡ same (now (a .entry)) (now (b .entry)) ⌝ }
+{
+    equal_lowering(a, b, false)
+}
+
+// Whether a and b hold the same bytes, both lowered where that is asked. The loop does not stop at a difference, so that the compiler
+// can compare many bytes at once.
+pub(crate) fn equal_lowering(a: &[u8], b: &[u8], lowering: bool) -> bool
+    ensures { λ r. ⌜ r ≡ same (map (loweredIf lowering) (now (a .entry))) (map (loweredIf lowering) (now (b .entry))) ⌝ }
 {
     if a.len() != b.len() {
         return false;
@@ -25,7 +44,7 @@ pub fn equal(a: &[u8], b: &[u8]) -> bool
     let mut alike = true;
     let mut i: usize = 0;
     while i < a.len() {
-        alike = alike & (a[i] == b[i]);
+        alike = alike & (lower_if(a[i], lowering) == lower_if(b[i], lowering));
         i += 1;
     }
     alike
@@ -54,15 +73,4 @@ pub(crate) fn starts_with(s: &[u8], r: &[u8]) -> bool
         return false;
     }
     equal(&s[..n], r)
-}
-
-// Whether s ends with r.
-pub(crate) fn ends_with(s: &[u8], r: &[u8]) -> bool
-    ensures { λ r′. ⌜ r′ ≡ endsWith (now (s .entry)) (now (r .entry)) ⌝ }
-{
-    if s.len() < r.len() {
-        return false;
-    }
-    let k = s.len() - r.len();
-    equal(&s[k..], r)
 }

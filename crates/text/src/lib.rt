@@ -8,4 +8,5 @@ pub use bytes::equal;
 pub use bytes::lower;
 pub use normal::Normalized;
 pub use normal::normalize_string;
+pub use wildcard::match_lowered;
 pub use wildcard::match_name;

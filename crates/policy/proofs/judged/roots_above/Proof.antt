@@ -6,6 +6,7 @@ use Prim.Native.Nat.{_-_, _<_, _≤_}
 use mathlib.Core.Logic.{⊎-elim}
 use mathlib.Core.Path.{sym, ap, _∙_}
 use Rattle.record.specs.Certificate.{certificateOf}
+use Rattle.record.proofs.Meaning.{own-head}
 use Rattle.certificates.proofs.Records.{size-within}
 use Rattle.rules.specs.Limits.{limitOf}
 use Rattle.policy.specs.Sound.{topSound, rootOf, soundRoots, rootLimits}
@@ -64,9 +65,9 @@ loop-again c =
     let a = t .before .before .before .before .args in
     let s = a .file .now in
     let j = t .before .loop .inv in
-    let read = p .record .ensures in
-    let limit = l .limit .ensures (h .head .ensures) ∙ ap (λ r. limitOf (certificateOf r s)) read in
-    let test = sym (c .before .top-sound .ensures _ s (h .head .ensures) ∙ ap (λ r. topSound (a .time) (certificateOf r s)) read) in
+    let own = own-head _ _ s (h .head .ensures) ∙ ap (λ r. certificateOf r s) (p .record .ensures) in
+    let limit = l .limit .ensures ∙ ap limitOf own in
+    let test = sym (c .before .top-sound .ensures _ s ∙ ap (topSound (a .time)) own) in
     let room : t .before .loop .i < 32 = omega arith in (
       omega arith,
       omega arith,

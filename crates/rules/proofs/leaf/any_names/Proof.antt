@@ -1,23 +1,21 @@
--- `any_names` answers whether one of n DNS names matches the lowered host. The loop's invariant: one of all matches where one of
+-- `any_names` answers whether one of n DNS names matches the host, both lowered. The loop's invariant: one of all matches where one of
 -- those that are left does. The measure is how many are left. `a` is the place after a name was read, `n` where it was found, `m` after it
 -- was matched. Assumes nothing.
 use mathlib.Core.Path.{refl, sym, ap, _∙_}
-use mathlib.Core.List.{map}
 use borrow.Author.Needs.{needs}
-use Rattle.text.specs.Bytes.{lowered}
-use Rattle.text.specs.Wildcard.{matchName}
 use Rattle.fields.specs.Answers.{spanned}
-use Rattle.fields.proofs.Strings.{span-read, string-got, string-stops}
+use Rattle.fields.proofs.Strings.{string-got, string-stops}
 use Rattle.lists.specs.Lists.{dnsNameP}
+use Rattle.rules.specs.Rules.{names}
 use Rattle.rules.proofs.AnyOf.{Left, any-next, any-found, any-stops, any-ends}
 use Rattle.rules.proofs.leaf.any_names.Statement.{statement}
 use Rattle.rules.proofs.leaf.any_names.Tie as tie
 
 abbrev Inv-loop : tie.InvT-loop
-Inv-loop file asked first n at₀ left₀ at left = Left (λ dns. matchName (map lowered dns) asked) dnsNameP file first n at left
+Inv-loop file host first n at₀ left₀ at left = Left (names host) dnsNameP file first n at left
 
 abbrev μ-loop : tie.MeasureT-loop
-μ-loop file asked first n at₀ left₀ at left = left
+μ-loop file host first n at₀ left₀ at left = left
 
 loop-holds : tie.Need-loop-holds Inv-loop μ-loop
 loop-holds c = refl
@@ -31,22 +29,18 @@ enum-known-name c = search needs
 part-requires : tie.Need-part-requires Inv-loop μ-loop
 part-requires c κs = search needs
 
-matches-requires : tie.Need-matches-requires Inv-loop μ-loop
-matches-requires c κs =
-    let n = c .before .before in
-    let a = n .before .before in
-    let q = sym (a .dns-name-at .ensures) ∙ ap spanned (n .name .given .1) in
-    rw (c .part .ensures) (span-read 1 253 _ _ _ _ q .few)
+match-lowered-requires : tie.Need-match-lowered-requires Inv-loop μ-loop
+match-lowered-requires c κs = search needs
 
 returns : tie.Need-returns Inv-loop μ-loop
-unfolding dnsNameP
+unfolding dnsNameP names
 returns c =
     let m = c .before in
     let n = m .before .before .before in
     let a = n .before .before in
     let q = sym (a .dns-name-at .ensures) ∙ ap spanned (n .name .given .1) in
     any-found _ _ _ _ _ _ _ _ _ (a .before .before .loop .inv) (a .before .loop-test .taken) (string-got 1 253 _ _ _ _ q)
-    (rw (m .before .part .ensures) at (sym (m .matches .ensures) ∙ c .if1 .taken))
+    (rw (m .before .part .ensures) at (sym (m .match-lowered .ensures) ∙ c .if1 .taken))
 
 sub-left : tie.Need-sub-left Inv-loop μ-loop
 sub-left c = search needs
@@ -55,14 +49,14 @@ loop-less : tie.Need-loop-less Inv-loop μ-loop
 loop-less c = search needs
 
 loop-again : tie.Need-loop-again Inv-loop μ-loop
-unfolding dnsNameP
+unfolding dnsNameP names
 loop-again c =
     let m = c .before in
     let n = m .before .before .before in
     let a = n .before .before in
     let q = sym (a .dns-name-at .ensures) ∙ ap spanned (n .name .given .1) in
     any-next _ _ _ _ _ _ _ _ _ (a .before .before .loop .inv) (a .before .loop-test .taken) (string-got 1 253 _ _ _ _ q)
-    (rw (m .before .part .ensures) at (sym (m .matches .ensures) ∙ c .if1 .left))
+    (rw (m .before .part .ensures) at (sym (m .match-lowered .ensures) ∙ c .if1 .left))
 
 enum-told : tie.Need-enum-told Inv-loop μ-loop
 enum-told c = search needs
@@ -87,7 +81,7 @@ any-names-spec =
     dns-name-at-requires
     enum-known-name
     part-requires
-    matches-requires
+    match-lowered-requires
     returns
     sub-left
     loop-less
