@@ -1,6 +1,5 @@
--- What the code's tests of names, key identifiers and verdicts come to: flags as remainders and parts as bytes give `keys-fit`; with that
--- asked first, the names give `likely-names` and `likely-none`; with the verdict asked before both, `after-signed` and `after-unsigned`.
--- Assumes nothing.
+-- What the code's tests of names and key identifiers come to, for an issuer and a subject whose claim is at hand: flags as remainders and
+-- parts as bytes give `keys-fit`; with that asked first, the names give `likely-names` and `likely-none`. Assumes nothing.
 use Prim.Native.Nat.{ℕ, _/_, _%_}
 use mathlib.Core.Path.{_≡_, refl, sym, _∙_}
 use mathlib.Core.Bool.{Bool, true, false, _&&_}
@@ -13,38 +12,35 @@ use Rattle.same.specs.Answers.{sameNames}
 use Rattle.keys.specs.AuthKeyId.{given, checkAuthKeyId}
 use Rattle.extensions.specs.Extensions.{flag}
 use Rattle.extensions.specs.declared.KeyIds.{KeyIds}
-use Rattle.record.specs.declared.head.Head.{Head}
 use Rattle.record.specs.declared.strings.Strings.{Strings}
 use Rattle.record.specs.Parts.{headOf, stringsOf, keyIdsOf, issuerSpan, subjectSpan}
-use Rattle.record.specs.Certificate.{certificateOf, present}
+use Rattle.record.specs.Certificate.{certificateBy, certificateOf, present}
 use Rattle.record.specs.declared.Record.{Record}
 use Rattle.issuing.specs.Issued.{keysFit}
-use Rattle.issuing.specs.Records.{likelyIssuedAt}
+use Rattle.issuing.specs.Records.{claimOf, likelyIssuedAt}
+use Rattle.issuing.specs.declared.likely.Claim.{Claim}
 
 given-present : (b : Bool) (l : List ℕ) → given b l ≡ present b l
 given-present true l = refl
 given-present false l = refl
 
--- the parts that the code hands over are those of the two certificates
-pub keys-fit : (s : List ℕ) (issuer subject : Record) (head named : Head) (ids own : KeyIds) (strings : Strings)
+-- the parts that the code hands over are those of the issuer's certificate and of the one that claims
+pub keys-fit : (s : List ℕ) (issuer subject : Record) (claim : Claim) (named : ℕ) (own : KeyIds) (strings : Strings)
     (akid aserial skid serial : List ℕ) (r : Bool)
-    → head ≡ headOf subject s → named ≡ headOf issuer s
-    → ids ≡ keyIdsOf (head .flags) subject s → own ≡ keyIdsOf (named .flags) issuer s → strings ≡ stringsOf issuer s
+    → claim ≡ claimOf s subject → named ≡ headOf issuer s .flags → own ≡ keyIdsOf named issuer s → strings ≡ stringsOf issuer s
     → r
-    ≡ checkAuthKeyId (given (eqb (head .flags % 2) 1) akid) (given (eqb (head .flags / 2 % 2) 1) aserial)
-    (given (eqb (named .flags / 4 % 2) 1) skid) serial
-    → akid ≡ bytesOf (ids .authority) s → aserial ≡ bytesOf (ids .«authority_serial») s → skid ≡ bytesOf (own .subject) s
+    ≡ checkAuthKeyId (given (eqb (claim .flags % 2) 1) akid) (given (eqb (claim .flags / 2 % 2) 1) aserial) (given (eqb (named / 4 % 2) 1) skid) serial
+    → akid ≡ bytesOf (claim .«key_id») s → aserial ≡ bytesOf (claim .serial) s → skid ≡ bytesOf (own .subject) s
     → serial ≡ bytesOf (strings .serial) s
     → r ≡ keysFit (certificateOf issuer s) (certificateOf subject s)
-unfolding keysFit certificateOf flag
-keys-fit s issuer subject head named ids own strings akid aserial skid serial r f n i o t h a b c d =
+unfolding keysFit certificateOf certificateBy claimOf flag
+keys-fit s issuer subject claim named own strings akid aserial skid serial r f n o t h a b c d =
     h
     ∙ rw (
       a,
       b,
       c,
       d,
-      i,
       o,
       t,
       f,
@@ -64,19 +60,11 @@ module _ (s : List ℕ) (issuer subject : Record) where
   after-no true b h = sym h
   after-no false b h = refl
 
-  pub likely-names : (a b : Span) (r : Bool) → keysFit (certificateOf issuer s) (certificateOf subject s) ≡ true
-      → a ≡ issuerSpan subject → b ≡ subjectSpan issuer → r ≡ sameNames true a b s → r ≡ likelyIssuedAt s issuer subject
-  unfolding likelyIssuedAt
-  likely-names a b r h p q e = e ∙ rw (p, q) (after-yes _ _ h)
+  pub likely-names : (claim : Claim) (name : Span) (r : Bool) → keysFit (certificateOf issuer s) (certificateOf subject s) ≡ true
+      → claim ≡ claimOf s subject → name ≡ subjectSpan issuer → r ≡ sameNames true (claim .name) name s → r ≡ likelyIssuedAt s issuer subject
+  unfolding likelyIssuedAt claimOf
+  likely-names claim name r h p q e = e ∙ rw (p, q) (after-yes _ _ h)
 
   pub likely-none : keysFit (certificateOf issuer s) (certificateOf subject s) ≡ false → false ≡ likelyIssuedAt s issuer subject
   unfolding likelyIssuedAt
   likely-none h = after-no (sameNames true (issuerSpan subject) (subjectSpan issuer) s) _ h
-
--- ---- the verdict first
-
-pub after-signed : (a b r : Bool) → r ≡ b → a ≡ true → r ≡ a && b
-after-signed a b r h e = rw e h
-
-pub after-unsigned : (a b : Bool) → a ≡ false → false ≡ a && b
-after-unsigned a b e = rw e

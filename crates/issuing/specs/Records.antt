@@ -4,7 +4,7 @@ use Prim.Native.Nat.{ℕ}
 use mathlib.Core.Bool.{Bool, true, _&&_}
 use mathlib.Core.List.{List}
 use Rattle.same.specs.Answers.{sameNames}
-use Rattle.record.specs.Parts.{issuerSpan, subjectSpan}
+use Rattle.record.specs.Parts.{headOf, keyIdsOf, issuerSpan, subjectSpan}
 use Rattle.record.specs.Certificate.{certificateOf}
 use Rattle.record.specs.declared.Record.{Record}
 use Rattle.certificates.specs.Certificates.{recordOf, sizeOf}
@@ -14,6 +14,14 @@ use Rattle.verdicts.specs.Verdicts.{rootSigned, bundleSigned}
 use Rattle.verdicts.specs.declared.Verdicts.{Verdicts}
 use Rattle.rows.specs.Rows.{rowOf, listing}
 use Rattle.issuing.specs.Issued.{keysFit}
+use Rattle.issuing.specs.declared.likely.Claim.{Claim}
+
+-- what a subject says of its issuer
+unfoldable pub claimOf : List ℕ → Record → Claim
+claimOf s subject =
+    let flags = headOf subject s .flags in
+    let ids = keyIdsOf flags subject s in
+    record { flags = flags; «key_id» = ids .authority; serial = ids .«authority_serial»; name = issuerSpan subject }
 
 unfoldable pub likelyIssuedAt : List ℕ → Record → Record → Bool
 likelyIssuedAt s issuer subject =

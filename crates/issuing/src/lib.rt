@@ -1,13 +1,15 @@
 // Who issued whom, of records that were read: likely issued, and found signed. Filled once into rows of bits, each pair of places
 // compared at most once; the search reads the rows.
 mod likely;
-mod rows_of;
+mod row;
 
 use card::Bundle;
+use card::BundlePlace;
 use card::Card;
+use likely::claim_of;
 pub use likely::likely_issued;
-use rows_of::bundle_rows;
-use rows_of::root_rows;
+use row::bundle_row;
+use row::root_row;
 ghost use mathlib.Core.Path.{_≡_};
 ghost use Rattle.issuing.specs.Records.{bundleRows, rootRows};
 
@@ -17,13 +19,27 @@ pub struct Issuing {
     pub roots: [u64; Bundle::MOST],
 }
 
-// Who issued whom in a card, as rows.
+// Who issued whom in a card, as rows. What a subject says of its issuer is read once for both of its rows.
 pub fn who_issued(file: &[u8], card: Card) -> Issuing
     ensures { λ r. ⌜ r .bundle ≡ bundleRows (now (file .entry)) (card .bundle) (card .verdicts) ⌝ }
     ensures { λ r. ⌜ r .roots ≡ rootRows (now (file .entry)) (card .roots) (card .bundle) (card .verdicts) ⌝ }
 {
+    let bundle = card.bundle;
+    let roots = card.roots;
+    let verdicts = card.verdicts;
+    let n = bundle.size();
+    let mut by_bundle = [0u64; Bundle::MOST];
+    let mut by_roots = [0u64; Bundle::MOST];
+    let mut j: u8 = 0;
+    while j < n {
+        let subject = BundlePlace(j);
+        let claim = claim_of(file, bundle.record(subject));
+        by_bundle[j as usize] = bundle_row(file, bundle, verdicts, subject, claim);
+        by_roots[j as usize] = root_row(file, roots, verdicts, subject, claim);
+        j += 1;
+    }
     Issuing {
-        bundle: bundle_rows(file, card.bundle, card.verdicts),
-        roots: root_rows(file, card.roots, card.bundle, card.verdicts),
+        bundle: by_bundle,
+        roots: by_roots,
     }
 }

@@ -1,37 +1,69 @@
 // Likely issued: the names fit and the key identifiers do.
+use fields::Span;
 use fields::part;
 use keys::check_auth_key_id;
 use record::Record;
 use same::same_names;
 ghost use mathlib.Core.Path.{_≡_};
 ghost use Rattle.record.specs.Certificate.{certificateOf};
+ghost use Rattle.record.specs.declared.Record.{Record};
 ghost use Rattle.issuing.specs.Issued.{keysFit};
-ghost use Rattle.issuing.specs.Records.{likelyIssuedAt};
+ghost use Rattle.issuing.specs.Records.{claimOf, likelyIssuedAt};
+
+// What a certificate says of its issuer: the name and, by its flags, key id and serial.
+pub(crate) struct Claim {
+    pub(crate) flags: usize,
+    pub(crate) key_id: Span,
+    pub(crate) serial: Span,
+    pub(crate) name: Span,
+}
+
+// What a subject says of its issuer, read once for all who may have issued it.
+pub(crate) fn claim_of(file: &[u8], subject: Record) -> Claim
+    ensures { λ r. ⌜ r ≡ claimOf (now (file .entry)) subject ⌝ }
+{
+    let flags = subject.flags(file);
+    let ids = subject.key_ids(file, flags);
+    let key_id = ids.authority;
+    let serial = ids.authority_serial;
+    Claim {
+        flags,
+        key_id,
+        serial,
+        name: subject.issuer_name(),
+    }
+}
 
 // Whether the subject's issuer name is the issuer's subject name, normalised, and its authority key id fits.
 pub fn likely_issued(file: &[u8], issuer: Record, subject: Record) -> bool
     ensures { λ r. ⌜ r ≡ likelyIssuedAt (now (file .entry)) issuer subject ⌝ }
 {
-    if keys_fit(file, issuer, subject) {
-        return same_names(file, subject.issuer_name(), issuer.subject_name(), true);
+    fits(file, issuer, claim_of(file, subject))
+}
+
+// Whether an issuer is the one that a claim speaks of: its key ids fit, and its subject name is the name, normalised.
+pub(crate) fn fits(file: &[u8], issuer: Record, claim: Claim) -> bool
+    ensures { λ r. ⌜ ((subject : Record) → claim ≡ claimOf (now (file .entry)) subject → r ≡ likelyIssuedAt (now (file .entry)) issuer subject) ⌝ }
+{
+    if keys_fit(file, issuer, claim) {
+        return same_names(file, claim.name, issuer.subject_name(), true);
     }
     false
 }
 
-// Whether what the subject says of its issuer's key fits the issuer.
-fn keys_fit(file: &[u8], issuer: Record, subject: Record) -> bool
-    ensures { λ r. ⌜ r ≡ keysFit (certificateOf issuer (now (file .entry))) (certificateOf subject (now (file .entry))) ⌝ }
+// Whether what a claim says of the issuer's key fits the issuer.
+fn keys_fit(file: &[u8], issuer: Record, claim: Claim) -> bool
+    ensures { λ r. ⌜ ((subject : Record) → claim ≡ claimOf (now (file .entry)) subject → r ≡ keysFit (certificateOf issuer (now (file .entry))) (certificateOf subject (now (file .entry)))) ⌝ }
 {
-    let flags = subject.head(file).flags;
-    let named = issuer.head(file).flags;
-    let authority = subject.key_ids(file, flags);
+    let flags = claim.flags;
+    let named = issuer.flags(file);
     let own = issuer.key_ids(file, named);
     let strings = issuer.strings(file);
     check_auth_key_id(
         flags % 2 == 1,
-        part(file, authority.authority),
+        part(file, claim.key_id),
         flags / 2 % 2 == 1,
-        part(file, authority.authority_serial),
+        part(file, claim.serial),
         named / 4 % 2 == 1,
         part(file, own.subject),
         part(file, strings.serial),

@@ -1,14 +1,14 @@
 -- The same bytes again are the same name: what is read depends on the bytes that it is read from and not on their place
 -- (`name-alike`, `bytes-alike`). Assumes nothing.
 use Prim.Native.Nat.{ℕ, zero, suc, _+_, _-_, _<_, _≤_}
-use mathlib.Core.Path.{_≡_, refl, sym, ap, ap₂, _∙_}
+use mathlib.Core.Path.{_≡_, sym, ap, ap₂, _∙_}
 use mathlib.Core.List.{List, [], _∷_}
 use native.Mathlib.Omega.{arith}
 use lib.Dec.{leb}
 use lib.ListN.{length, getD, take, drop, length-drop}
 use lib.Seq.{length-take-le, getD-take, getD-drop, ext-getD}
 use borrow.Author.Tests.{leb-true}
-use Rattle.fields.specs.Fields.{Parsed, got, stop, after, countP, spanP, stringP, bytesOf, many, countedP}
+use Rattle.fields.specs.Fields.{Parsed, got, after, countP, spanP, stringP, bytesOf, many, countedP}
 use Rattle.fields.specs.declared.string.Span.{Span}
 use Rattle.fields.proofs.After.{after-got, judged-got, got-is}
 use Rattle.fields.proofs.Counts.{count-read}

@@ -85,16 +85,12 @@ module _ (s : List ℕ) (c : Card) (e : ℕ) (t : CardRead s c e) (time : ℕ) w
 
   -- ---- the leaf
 
-  host-few : length (contentOf c s .host) ≤ 253
-  unfolding contentOf
-  host-few = t .host .is .few
-
   leaf-read : 0 < c .bundle .count → leafSoundAt s time (contentOf c s .host) (recordOf (c .bundle .count) (c .bundle .records) 0)
       ≡ leafSound time (contentOf c s .host) (place 0)
   unfolding leafSoundAt leafSound
   leaf-read h =
       let r = bundled-stands s c e t 0 h in
-      rw (for-servers-read s _ _ (r .read), for-host-read s _ _ (r .read) (contentOf c s .host) host-few, bundled-is s c e t 0 h)
+      rw (for-servers-read s _ _ (r .read), for-host-read s _ _ (r .read) (contentOf c s .host), bundled-is s c e t 0 h)
 
   -- a root may stand above exactly where the leaf is sound and it is
   above-has : (b : Bool) (r row : ℕ) → has r (cond b row 0) ≡ (b && has r row)

@@ -2,6 +2,7 @@
 use card::Bundle;
 use card::BundlePlace;
 use card::Card;
+use card::RootPlace;
 use card::Roots;
 use extensions::Extensions;
 use fields::part;
@@ -19,8 +20,7 @@ ghost use mathlib.Core.List.{List};
 ghost use mathlib.Core.Path.{_≡_};
 ghost use Prim.Native.Nat.{ℕ};
 ghost use mathlib.Core.Bool.{_&&_};
-ghost use Rattle.record.specs.Certificate.{certificateOf};
-ghost use Rattle.record.specs.Parts.{headOf};
+ghost use Rattle.record.specs.Certificate.{certificateBy};
 ghost use Rattle.record.specs.declared.Record.{Record};
 ghost use Rattle.rules.specs.Records.{forServersAt, forHostAt};
 ghost use Rattle.policy.specs.Sound.{leafSoundAt, betweenSound, topSound, soundPlaces, placeLimits, soundRoots, rootLimits, rootsAbove};
@@ -29,13 +29,13 @@ ghost use Rattle.policy.specs.Sound.{leafSoundAt, betweenSound, topSound
 // between it and the leaf.
 pub struct Between {
     pub sound: u64,
-    pub limits: [usize; Bundle::MOST],
+    pub limits: [u8; Bundle::MOST],
 }
 
 // The same of the roots; none may stand above where the leaf is not sound.
 pub struct Above {
     pub sound: u64,
-    pub limits: [usize; Roots::MOST],
+    pub limits: [u8; Roots::MOST],
 }
 
 pub struct Judged {
@@ -94,7 +94,7 @@ fn leaf_serves(file: &[u8], host: &[u8], extensions: Extensions) -> bool
 
 // What is asked of a certificate between leaf and root, its path length aside.
 fn between_sound(file: &[u8], time: u64, head: Head, cert: Record) -> bool
-    ensures { λ r. ⌜ (head ≡ headOf cert (now (file .entry)) → r ≡ betweenSound time (certificateOf cert (now (file .entry)))) ⌝ }
+    ensures { λ r. ⌜ r ≡ betweenSound time (certificateBy head cert (now (file .entry))) ⌝ }
 {
     if in_date(time, head) {
         if well_formed(file, head, cert) {
@@ -108,7 +108,7 @@ fn between_sound(file: &[u8], time: u64, head: Head, cert: Record) -> bool
 
 // What is asked of a root, its path length aside.
 fn top_sound(time: u64, head: Head) -> bool
-    ensures { λ r. ⌜ ((cert : Record) (s : List ℕ) → head ≡ headOf cert s → r ≡ topSound time (certificateOf cert s)) ⌝ }
+    ensures { λ r. ⌜ ((cert : Record) (s : List ℕ) → r ≡ topSound time (certificateBy head cert s)) ⌝ }
 {
     if in_date(time, head) {
         if handled(head) {
@@ -118,16 +118,15 @@ fn top_sound(time: u64, head: Head) -> bool
     false
 }
 
-// A record is read where it stands in the array: fetched by its place, all of them would be copied each turn.
 fn places_between(file: &[u8], time: u64, bundle: Bundle) -> Between
     ensures { λ r. ⌜ (r .sound ≡ soundPlaces (now (file .entry)) time bundle) × (r .limits ≡ placeLimits (now (file .entry)) bundle) ⌝ }
 {
     let n = bundle.size();
     let mut sound: u64 = 0;
-    let mut limits = [0usize; Bundle::MOST];
+    let mut limits = [0u8; Bundle::MOST];
     let mut i: u8 = 0;
     while i < n {
-        let record = bundle.records[i as usize];
+        let record = bundle.record(BundlePlace(i));
         let head = record.head(file);
         limits[i as usize] = limit(file, head, record);
         if between_sound(file, time, head, record) {
@@ -143,10 +142,10 @@ fn roots_above(file: &[u8], time: u64, roots: Roots) -> Above
 {
     let n = roots.size();
     let mut sound: u64 = 0;
-    let mut limits = [0usize; Roots::MOST];
+    let mut limits = [0u8; Roots::MOST];
     let mut i: u8 = 0;
     while i < n {
-        let record = roots.records[i as usize];
+        let record = roots.record(RootPlace(i));
         let head = record.head(file);
         limits[i as usize] = limit(file, head, record);
         if top_sound(time, head) {

@@ -20,9 +20,9 @@ pub fn lowest_root(
     path: &[u8],
     issued: &[u64; Bundle::MOST],
     between: u64,
-    limits: &[usize; Bundle::MOST],
+    limits: &[u8; Bundle::MOST],
     above: u64,
-    tops: &[usize; Roots::MOST],
+    tops: &[u8; Roots::MOST],
 ) -> Top
     ensures { λ r. ⌜ r ≡ topOf (judgedRoot (now (issued .entry)) between (now (limits .entry)) above (now (tops .entry)) (now (path .entry))) ⌝ }
 {
@@ -46,7 +46,7 @@ pub fn lowest_root(
 }
 
 // Each place after the first may stand where it does.
-fn all_stand(path: &[u8], between: u64, limits: &[usize; Bundle::MOST]) -> bool
+fn all_stand(path: &[u8], between: u64, limits: &[u8; Bundle::MOST]) -> bool
     ensures { λ r. ⌜ r ≡ allStand between (now (limits .entry)) 0 (drop 1 (now (path .entry))) ⌝ }
 {
     let mut i: usize = 1;
@@ -56,7 +56,7 @@ fn all_stand(path: &[u8], between: u64, limits: &[usize; Bundle::MOST]) -> bool
             return false;
         }
         if has(between, place) {
-            if i - 1 <= limits[place as usize] {
+            if i - 1 <= wide(limits[place as usize]) {
                 i += 1;
                 continue;
             }
@@ -67,14 +67,14 @@ fn all_stand(path: &[u8], between: u64, limits: &[usize; Bundle::MOST]) -> bool
 }
 
 // The lowest root that issued the last place and may stand above, with n certificates between it and the leaf.
-fn lowest_above(issued: u64, above: u64, limits: &[usize; Roots::MOST], n: usize) -> Top
+fn lowest_above(issued: u64, above: u64, limits: &[u8; Roots::MOST], n: usize) -> Top
     ensures { λ r. ⌜ r ≡ topOf (lowestAbove issued above (now (limits .entry)) n) ⌝ }
 {
     let mut r: u8 = 0;
     while (r as usize) < Roots::MOST {
         if has(issued, r) {
             if has(above, r) {
-                if n <= limits[r as usize] {
+                if n <= wide(limits[r as usize]) {
                     return Top::Root(RootPlace(r));
                 }
             }
@@ -82,4 +82,11 @@ fn lowest_above(issued: u64, above: u64, limits: &[usize; Roots::MOST], n: usize
         r += 1;
     }
     Top::None
+}
+
+// A limit beside a count of certificates.
+fn wide(limit: u8) -> usize
+    ensures { λ r. ⌜ r ≡ limit ⌝ }
+{
+    limit as usize
 }

@@ -20,7 +20,7 @@ use Rattle.extensions.proofs.Meaning.{ExtensionsRead, extensions-read}
 use Rattle.record.specs.Record.{paired, flagsP, datesP, headP, stringsP, namesP, placeOf, placed, recordP}
 use Rattle.record.specs.Fresh.{no-head, no-strings, no-extensions}
 use Rattle.record.specs.Parts.{valueOr, headOf, stringsOf, extensionsOf}
-use Rattle.record.specs.Certificate.{certificateOf, listOf}
+use Rattle.record.specs.Certificate.{certificateBy, certificateOf, listOf}
 use Rattle.record.specs.declared.head.Head.{Head}
 use Rattle.record.specs.declared.strings.Strings.{Strings}
 use Rattle.record.specs.declared.parties.Names.{Names}
@@ -203,6 +203,11 @@ module _ (s : List ℕ) (few : length s ≤ 65535) where
       let extensions = after-got (extensionsP (head .value .flags) s (names .place)) _ (names .next) in
       got-is (λ (r : Record) _. r .start ≡ at) (extensions .next) (stays s at few (head-ends s at _ _ (head .first) .0))
 
+-- a record's own head, and its places, say what it says
+pub own-head : (h : Head) (r : Record) (s : List ℕ) → h ≡ headOf r s → certificateBy h r s ≡ certificateOf r s
+unfolding certificateOf
+own-head h r s e = ap (λ h. certificateBy h r s) e
+
 -- ---- what stands at the places of a record that was read, and what its certificate says
 
 module _ (s : List ℕ) (r : Record) (e : ℕ) (t : RecordRead s r e) where
@@ -229,21 +234,21 @@ module _ (s : List ℕ) (r : Record) (e : ℕ) (t : RecordRead s r e) where
   subject-within = omega (arith, extensions-there (t .head-is .flags) s (r .rest) _ _ (t .extensions))
 
   pub says-issuer : certificateOf r s .issuer ≡ t .issuer-name
-  unfolding certificateOf
+  unfolding certificateOf certificateBy
   says-issuer = ap listOf (t .issuer)
 
   pub says-subject : certificateOf r s .subject ≡ t .subject-name
-  unfolding certificateOf
+  unfolding certificateOf certificateBy
   says-subject = ap listOf (t .subject)
 
   pub says-usages : certificateOf r s .usages ≡ extensions-read-of .usages .things
-  unfolding certificateOf
+  unfolding certificateOf certificateBy
   says-usages =
       ap (λ (x : Extensions). listOf (many usageP (x .usages .count) s (x .usages .first))) extensions-of
       ∙ ap listOf (extensions-read-of .usages .are)
 
   pub says-dns-names : certificateOf r s .dns-names ≡ extensions-read-of .dns-names .things
-  unfolding certificateOf
+  unfolding certificateOf certificateBy
   says-dns-names =
       ap (λ (x : Extensions). listOf (many dnsNameP (x .«dns_names» .count) s (x .«dns_names» .first))) extensions-of
       ∙ ap listOf (extensions-read-of .dns-names .are)

@@ -8,6 +8,7 @@ use Rattle.names.specs.Names.{Attr, nameP}
 use Rattle.lists.specs.Lists.{usageP, dnsNameP}
 use Rattle.extensions.specs.Extensions.{flag}
 use Rattle.record.specs.Parts.{headOf, stringsOf, keyIdsOf, extensionsOf}
+use Rattle.record.specs.declared.head.Head.{Head}
 use Rattle.record.specs.declared.Record.{Record}
 
 pub record Certificate : Type 0 where
@@ -36,10 +37,9 @@ listOf (stop r) = []
 abbrev pub present : {A : Type 0} → Bool → A → Option A
 present b a = cond b (some a) none
 
--- what a record's places say over a file, whatever they are
-unfoldable pub certificateOf : Record → List ℕ → Certificate
-certificateOf r s =
-    let head = headOf r s in
+-- what a head and a record's places say over a file, whatever they are
+unfoldable pub certificateBy : Head → Record → List ℕ → Certificate
+certificateBy head r s =
     let strings = stringsOf r s in
     let keyIds = keyIdsOf (head .flags) r s in
     let rest = extensionsOf (head .flags) r s in
@@ -60,3 +60,7 @@ certificateOf r s =
       usages = listOf (many usageP (rest .usages .count) s (rest .usages .first));
       dns-names = listOf (many dnsNameP (rest .«dns_names» .count) s (rest .«dns_names» .first));
     }
+
+-- what a record says over a file: its own head, and its places
+unfoldable pub certificateOf : Record → List ℕ → Certificate
+certificateOf r s = certificateBy (headOf r s) r s

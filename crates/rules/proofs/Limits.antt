@@ -10,8 +10,8 @@ use lib.Dec.{leb}
 use borrow.Author.Tests.{eq-eqb, ne-eqb, le-leb}
 use Rattle.fields.specs.Fields.{Parsed, got, stop}
 use Rattle.extensions.specs.Extensions.{flag, extensionsP}
-use Rattle.record.specs.Certificate.{Certificate, certificateOf}
-use Rattle.record.specs.Parts.{valueOr, headOf, extensionsOf}
+use Rattle.record.specs.Certificate.{Certificate, certificateBy}
+use Rattle.record.specs.Parts.{valueOr, extensionsOf}
 use Rattle.record.specs.Fresh.{no-extensions}
 use Rattle.extensions.proofs.Meaning.{extensions-read}
 use Rattle.record.specs.declared.head.Head.{Head}
@@ -20,14 +20,14 @@ use Rattle.record.specs.declared.Record.{Record}
 use Rattle.rules.specs.Rules.{atMost, allows}
 use Rattle.rules.specs.Limits.{orNoLimit, limitOf}
 
-module _ (r : Record) (s : List ℕ) (head : Head) (h : head ≡ headOf r s) where
-  pub limit-given : head .flags / 16 % 2 ≡ 1 → (x : Extensions) → x ≡ extensionsOf (head .flags) r s → x .«path_length» ≡ limitOf (certificateOf r s)
-  unfolding limitOf certificateOf flag
-  limit-given f x q = rw (← h, eq-eqb (head .flags / 16 % 2) 1 f, q)
+module _ (r : Record) (s : List ℕ) (head : Head) where
+  pub limit-given : head .flags / 16 % 2 ≡ 1 → (x : Extensions) → x ≡ extensionsOf (head .flags) r s → x .«path_length» ≡ limitOf (certificateBy head r s)
+  unfolding limitOf certificateBy flag
+  limit-given f x q = rw (eq-eqb (head .flags / 16 % 2) 1 f, q)
 
-  pub no-limit : (head .flags / 16 % 2 ≡ 1 → ⊥) → 255 ≡ limitOf (certificateOf r s)
-  unfolding limitOf certificateOf flag
-  no-limit f = rw (← h, ne-eqb (head .flags / 16 % 2) 1 f)
+  pub no-limit : (head .flags / 16 % 2 ≡ 1 → ⊥) → 255 ≡ limitOf (certificateBy head r s)
+  unfolding limitOf certificateBy flag
+  no-limit f = rw (ne-eqb (head .flags / 16 % 2) 1 f)
 
 -- a path length is a byte, and 0 where it can't be read
 pub path-length-byte : (flags : ℕ) (r : Record) (s : List ℕ) (x : Extensions) → x ≡ extensionsOf flags r s → x .«path_length» ≤ 255

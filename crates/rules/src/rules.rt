@@ -1,4 +1,4 @@
-// What is asked of one certificate, a rule a function, in the paper's order. The head is the record's own, read once for all rules.
+// What is asked of one certificate, a rule a function, in the paper's order. The head is read once for all rules.
 use fields::part;
 use record::Head;
 use record::Record;
@@ -6,15 +6,14 @@ use text::equal;
 ghost use mathlib.Core.List.{List};
 ghost use mathlib.Core.Path.{_≡_};
 ghost use Prim.Native.Nat.{ℕ};
-ghost use Rattle.record.specs.Certificate.{certificateOf};
-ghost use Rattle.record.specs.Parts.{headOf};
+ghost use Rattle.record.specs.Certificate.{certificateBy};
 ghost use Rattle.record.specs.declared.Record.{Record};
 ghost use Rattle.rules.specs.Rules.{inDate, wellFormed, handled, authority};
 ghost use Rattle.rules.specs.Limits.{limitOf};
 
 // Not before and not after, at a time that is given.
 pub fn in_date(time: u64, head: Head) -> bool
-    ensures { λ r. ⌜ ((cert : Record) (s : List ℕ) → head ≡ headOf cert s → r ≡ inDate time (certificateOf cert s)) ⌝ }
+    ensures { λ r. ⌜ ((cert : Record) (s : List ℕ) → r ≡ inDate time (certificateBy head cert s)) ⌝ }
 {
     if time < head.not_before {
         return false;
@@ -24,7 +23,7 @@ pub fn in_date(time: u64, head: Head) -> bool
 
 // X.509 v3, and the algorithm inside the signature is the one outside it.
 pub fn well_formed(file: &[u8], head: Head, cert: Record) -> bool
-    ensures { λ r. ⌜ (head ≡ headOf cert (now (file .entry)) → r ≡ wellFormed (certificateOf cert (now (file .entry)))) ⌝ }
+    ensures { λ r. ⌜ r ≡ wellFormed (certificateBy head cert (now (file .entry))) ⌝ }
 {
     if head.version != V3 {
         return false;
@@ -37,14 +36,14 @@ const V3: usize = 2;
 
 // No critical extension was left unhandled.
 pub fn handled(head: Head) -> bool
-    ensures { λ r. ⌜ ((cert : Record) (s : List ℕ) → head ≡ headOf cert s → r ≡ handled (certificateOf cert s)) ⌝ }
+    ensures { λ r. ⌜ ((cert : Record) (s : List ℕ) → r ≡ handled (certificateBy head cert s)) ⌝ }
 {
     head.flags / 128 % 2 != 1
 }
 
 // A CA, which may sign certificates where it says what its key is for.
 pub fn authority(head: Head) -> bool
-    ensures { λ r. ⌜ ((cert : Record) (s : List ℕ) → head ≡ headOf cert s → r ≡ authority (certificateOf cert s)) ⌝ }
+    ensures { λ r. ⌜ ((cert : Record) (s : List ℕ) → r ≡ authority (certificateBy head cert s)) ⌝ }
 {
     let flags = head.flags;
     if flags / 8 % 2 != 1 {
@@ -58,7 +57,7 @@ pub fn authority(head: Head) -> bool
 
 // How many certificates a path length lets stand between this one and the leaf; no limit where there is none.
 pub fn limit(file: &[u8], head: Head, cert: Record) -> u8
-    ensures { λ r. ⌜ (head ≡ headOf cert (now (file .entry)) → r ≡ limitOf (certificateOf cert (now (file .entry)))) ⌝ }
+    ensures { λ r. ⌜ r ≡ limitOf (certificateBy head cert (now (file .entry))) ⌝ }
 {
     let flags = head.flags;
     if flags / 16 % 2 == 1 {

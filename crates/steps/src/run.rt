@@ -67,9 +67,9 @@ fn walk(
     rows: &[u64; Bundle::MOST],
     roots: &[u64; Bundle::MOST],
     between: u64,
-    limits: &[usize; Bundle::MOST],
+    limits: &[u8; Bundle::MOST],
     above: u64,
-    tops: &[usize; Roots::MOST],
+    tops: &[u8; Roots::MOST],
     budget: u64,
     need: usize,
 ) -> End

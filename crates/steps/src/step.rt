@@ -78,9 +78,9 @@ pub(crate) fn root_at(
     s: [u8; Slot::BYTES],
     roots: &[u64; Bundle::MOST],
     between: u64,
-    limits: &[usize; Bundle::MOST],
+    limits: &[u8; Bundle::MOST],
     above: u64,
-    tops: &[usize; Roots::MOST],
+    tops: &[u8; Roots::MOST],
 ) -> Top
     requires { ⌜ HoldsPath s ⌝ }
     ensures { λ r. ⌜ r ≡ topOf (judgedRoot (now (roots .entry)) between (now (limits .entry)) above (now (tops .entry)) (pathOf s)) ⌝ }

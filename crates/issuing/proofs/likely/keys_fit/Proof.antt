@@ -1,20 +1,14 @@
--- `keys_fit` hands over the parts that the two records say, each by its flag. Assumes nothing.
+-- `keys_fit` hands over the parts that the claim and the issuer's record say, each by its flag. Assumes nothing.
 use borrow.Author.Needs.{needs}
 use Rattle.issuing.proofs.Fits.{keys-fit}
 use Rattle.issuing.proofs.likely.keys_fit.Statement.{statement}
 use Rattle.issuing.proofs.likely.keys_fit.Tie as tie
 
-head-requires : tie.Need-head-requires
-head-requires c κs = search needs
-
-head-requires-2 : tie.Need-head-requires-2
-head-requires-2 c κs = search needs
+flags-requires : tie.Need-flags-requires
+flags-requires c κs = search needs
 
 key-ids-requires : tie.Need-key-ids-requires
 key-ids-requires c κs = search needs
-
-key-ids-requires-2 : tie.Need-key-ids-requires-2
-key-ids-requires-2 c κs = search needs
 
 strings-requires : tie.Need-strings-requires
 strings-requires c κs = search needs
@@ -42,20 +36,17 @@ returns c =
     let a = b .before in
     let t = a .before in
     let o = t .before in
-    let u = o .before in
-    let n = u .before in
-    let f = n .before in
-    keys-fit _ _ _ _ _ _ _ _ _ _ _ _ _ (f .head .ensures) (n .head2 .ensures) (u .key-ids .ensures) (o .key-ids2 .ensures) (t .strings .ensures)
-    (c .check-auth-key-id .ensures) (a .part .ensures) (b .part2 .ensures) (k .part3 .ensures) (d .part4 .ensures)
+    let n = o .before in
+    λ subject h.
+    keys-fit _ _ _ _ _ _ _ _ _ _ _ _ h (n .flags .ensures) (o .key-ids .ensures) (t .strings .ensures) (c .check-auth-key-id .ensures)
+    (a .part .ensures) (b .part2 .ensures) (k .part3 .ensures) (d .part4 .ensures)
 
 pub keys-fit-spec : {M : Type 1} → statement M
 keys-fit-spec =
     tie.close
     (tie.spec
-    head-requires
-    head-requires-2
+    flags-requires
     key-ids-requires
-    key-ids-requires-2
     strings-requires
     part-requires
     part-requires-2

@@ -1,39 +1,16 @@
--- `likely_issued` asks the key identifiers first, then the names. Assumes nothing.
+-- `likely_issued` asks whether the issuer is the one that the subject's claim speaks of. Assumes nothing.
 use borrow.Author.Needs.{needs}
-use mathlib.Core.Path.{sym, _∙_}
-use Rattle.issuing.proofs.Fits.{likely-names, likely-none}
 use Rattle.issuing.proofs.likely.likely_issued.Statement.{statement}
 use Rattle.issuing.proofs.likely.likely_issued.Tie as tie
 
-keys-fit-requires : tie.Need-keys-fit-requires
-keys-fit-requires c κs = search needs
+claim-of-requires : tie.Need-claim-of-requires
+claim-of-requires c κs = search needs
 
-issuer-name-requires : tie.Need-issuer-name-requires
-issuer-name-requires c κs = search needs
-
-subject-name-requires : tie.Need-subject-name-requires
-subject-name-requires c κs = search needs
-
-same-names-requires : tie.Need-same-names-requires
-same-names-requires c κs = search needs
+fits-requires : tie.Need-fits-requires
+fits-requires c κs = search needs
 
 returns : tie.Need-returns
-returns c =
-    let b = c .before in
-    let a = b .before in
-    likely-names _ _ _ _ _ _ (sym (a .before .before .keys-fit .ensures) ∙ a .before .if1 .taken) (a .issuer-name .ensures) (b .subject-name .ensures)
-    (c .same-names .ensures)
-
-returns-2 : tie.Need-returns-2
-returns-2 c = likely-none _ _ _ (sym (c .before .keys-fit .ensures) ∙ c .if1 .left)
+returns c = c .fits2 .ensures _ (c .before .claim-of .ensures)
 
 pub likely-issued-spec : {M : Type 1} → statement M
-likely-issued-spec =
-    tie.close
-    (tie.spec
-    keys-fit-requires
-    issuer-name-requires
-    subject-name-requires
-    same-names-requires
-    returns
-    returns-2)
+likely-issued-spec = tie.close (tie.spec claim-of-requires fits-requires returns)

@@ -18,31 +18,31 @@ authority-requires : tie.Need-authority-requires
 authority-requires c κs = search needs
 
 returns : tie.Need-returns
-returns c = λ head.
+returns c =
     let h = c .before in
     let f = h .before .before in
     let d = f .before .before in
-    let dated = sym (d .before .in-date .ensures _ _ head) ∙ d .if1 .taken in
-    let formed = sym (f .before .well-formed .ensures head) ∙ f .if2 .taken in
-    c .authority .ensures _ _ head ∙ sym (between-asked _ _ dated formed (sym (h .before .handled .ensures _ _ head) ∙ h .if3 .taken))
+    let dated = sym (d .before .in-date .ensures _ _) ∙ d .if1 .taken in
+    let formed = sym (f .before .well-formed .ensures) ∙ f .if2 .taken in
+    c .authority .ensures _ _ ∙ sym (between-asked _ _ dated formed (sym (h .before .handled .ensures _ _) ∙ h .if3 .taken))
 
 returns-2 : tie.Need-returns-2
-returns-2 c = λ head.
+returns-2 c =
     let f = c .before .before in
     let d = f .before .before in
-    let dated = sym (d .before .in-date .ensures _ _ head) ∙ d .if1 .taken in
-    let formed = sym (f .before .well-formed .ensures head) ∙ f .if2 .taken in
-    sym (between-unhandled _ _ dated formed (sym (c .before .handled .ensures _ _ head) ∙ c .if3 .left))
+    let dated = sym (d .before .in-date .ensures _ _) ∙ d .if1 .taken in
+    let formed = sym (f .before .well-formed .ensures) ∙ f .if2 .taken in
+    sym (between-unhandled _ _ dated formed (sym (c .before .handled .ensures _ _) ∙ c .if3 .left))
 
 returns-3 : tie.Need-returns-3
-returns-3 c = λ head.
+returns-3 c =
     let d = c .before .before in
-    let dated = sym (d .before .in-date .ensures _ _ head) ∙ d .if1 .taken in
-    sym (between-unformed _ _ dated (sym (c .before .well-formed .ensures head) ∙ c .if2 .left))
+    let dated = sym (d .before .in-date .ensures _ _) ∙ d .if1 .taken in
+    sym (between-unformed _ _ dated (sym (c .before .well-formed .ensures) ∙ c .if2 .left))
 
 returns-4 : tie.Need-returns-4
-returns-4 c = λ head.
-    sym (between-undated _ _ (sym (c .before .in-date .ensures _ _ head) ∙ c .if1 .left))
+returns-4 c =
+    sym (between-undated _ _ (sym (c .before .in-date .ensures _ _) ∙ c .if1 .left))
 
 pub between-sound-spec : {M : Type 1} → statement M
 between-sound-spec =

@@ -1,6 +1,7 @@
 -- `leaf_sound` asks the leaf's date, form, extensions and lists in this order, and stops at the first no. Assumes nothing.
 use borrow.Author.Needs.{needs}
 use mathlib.Core.Path.{sym, _∙_}
+use Rattle.record.proofs.Meaning.{own-head}
 use Rattle.policy.proofs.Once.{leaf-undated, leaf-unformed, leaf-unhandled, leaf-asked}
 use Rattle.policy.proofs.judged.leaf_sound.Statement.{statement}
 use Rattle.policy.proofs.judged.leaf_sound.Tie as tie
@@ -29,32 +30,43 @@ returns c =
     let h = x .before in
     let f = h .before .before in
     let d = f .before .before in
-    let head = d .before .before .head .ensures in
-    let dated = sym (d .before .in-date .ensures _ _ head) ∙ d .if1 .taken in
-    let formed = sym (f .before .well-formed .ensures head) ∙ f .if2 .taken in
-    let told = sym (h .before .handled .ensures _ _ head) ∙ h .if3 .taken in
+    let start = d .before .before in
+    let a = start .before .before .before .args in
+    let head = start .head .ensures in
+    let own = own-head _ (a .leaf) (a .file .now) head in
+    let dated = sym (rw own at (d .before .in-date .ensures (a .leaf) (a .file .now))) ∙ d .if1 .taken in
+    let formed = sym (rw own at (f .before .well-formed .ensures)) ∙ f .if2 .taken in
+    let told = sym (rw own at (h .before .handled .ensures (a .leaf) (a .file .now))) ∙ h .if3 .taken in
     c .leaf-serves .ensures ∙ sym (leaf-asked _ _ _ _ dated formed told _ _ head (x .extensions .ensures))
 
 returns-2 : tie.Need-returns-2
 returns-2 c =
     let f = c .before .before in
     let d = f .before .before in
-    let head = d .before .before .head .ensures in
-    let dated = sym (d .before .in-date .ensures _ _ head) ∙ d .if1 .taken in
-    let formed = sym (f .before .well-formed .ensures head) ∙ f .if2 .taken in
-    sym (leaf-unhandled _ _ _ _ dated formed (sym (c .before .handled .ensures _ _ head) ∙ c .if3 .left))
+    let start = d .before .before in
+    let a = start .before .before .before .args in
+    let head = start .head .ensures in
+    let own = own-head _ (a .leaf) (a .file .now) head in
+    let dated = sym (rw own at (d .before .in-date .ensures (a .leaf) (a .file .now))) ∙ d .if1 .taken in
+    let formed = sym (rw own at (f .before .well-formed .ensures)) ∙ f .if2 .taken in
+    sym (leaf-unhandled _ _ _ _ dated formed (sym (rw own at (c .before .handled .ensures (a .leaf) (a .file .now))) ∙ c .if3 .left))
 
 returns-3 : tie.Need-returns-3
 returns-3 c =
     let d = c .before .before in
-    let head = d .before .before .head .ensures in
-    let dated = sym (d .before .in-date .ensures _ _ head) ∙ d .if1 .taken in
-    sym (leaf-unformed _ _ _ _ dated (sym (c .before .well-formed .ensures head) ∙ c .if2 .left))
+    let start = d .before .before in
+    let a = start .before .before .before .args in
+    let head = start .head .ensures in
+    let own = own-head _ (a .leaf) (a .file .now) head in
+    let dated = sym (rw own at (d .before .in-date .ensures (a .leaf) (a .file .now))) ∙ d .if1 .taken in
+    sym (leaf-unformed _ _ _ _ dated (sym (rw own at (c .before .well-formed .ensures)) ∙ c .if2 .left))
 
 returns-4 : tie.Need-returns-4
 returns-4 c =
-    let head = c .before .before .head .ensures in
-    sym (leaf-undated _ _ _ _ (sym (c .before .in-date .ensures _ _ head) ∙ c .if1 .left))
+    let start = c .before .before in
+    let a = start .before .before .before .args in
+    let own = own-head _ (a .leaf) (a .file .now) (start .head .ensures) in
+    sym (leaf-undated _ _ _ _ (sym (rw own at (c .before .in-date .ensures (a .leaf) (a .file .now))) ∙ c .if1 .left))
 
 pub leaf-sound-spec : {M : Type 1} → statement M
 leaf-sound-spec =

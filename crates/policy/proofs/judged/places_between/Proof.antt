@@ -6,7 +6,8 @@ use Prim.Native.Nat.{_-_, _<_, _≤_}
 use mathlib.Core.Logic.{⊎-elim}
 use mathlib.Core.Path.{sym, ap, _∙_}
 use Rattle.record.specs.Certificate.{certificateOf}
-use Rattle.certificates.proofs.Records.{size-within, record-counted}
+use Rattle.record.proofs.Meaning.{own-head}
+use Rattle.certificates.proofs.Records.{size-within}
 use Rattle.rules.specs.Limits.{limitOf}
 use Rattle.policy.specs.Sound.{betweenSound, placeOf, soundPlaces, placeLimits}
 use Rattle.policy.proofs.Places.{Judging, judging-starts, judging-joins, judging-passes, judging-ends}
@@ -28,14 +29,8 @@ loop-holds c =
     let n = c .size .ensures in
     (rw n (size-within 16 _), omega arith, judging-starts _ _ 16)
 
-cast-record : tie.Need-cast-record Inv-loop μ-loop
-cast-record c = search needs
-
-mul-record : tie.Need-mul-record Inv-loop μ-loop
-mul-record c = search needs
-
-element-copy-out-record : tie.Need-element-copy-out-record Inv-loop μ-loop
-element-copy-out-record c = search needs
+record-requires : tie.Need-record-requires Inv-loop μ-loop
+record-requires c κs = search needs
 
 head-requires : tie.Need-head-requires Inv-loop μ-loop
 head-requires c κs = search needs
@@ -45,9 +40,6 @@ limit-requires c κs = search needs
 
 cast-limits : tie.Need-cast-limits Inv-loop μ-loop
 cast-limits c = search needs
-
-mul-limits : tie.Need-mul-limits Inv-loop μ-loop
-mul-limits c = search needs
 
 array-write-limits : tie.Need-array-write-limits Inv-loop μ-loop
 array-write-limits c = search needs
@@ -73,9 +65,9 @@ loop-again c =
     let a = t .before .before .before .before .args in
     let s = a .file .now in
     let j = t .before .loop .inv in
-    let read = record-counted 16 (a .t3 .count) (a .t3 .records) _ _ (t .before .before .size .ensures) (t .loop-test .taken) in
-    let limit = l .limit .ensures (h .head .ensures) ∙ ap (λ r. limitOf (certificateOf r s)) read in
-    let test = sym (c .before .between-sound .ensures (h .head .ensures) ∙ ap (λ r. betweenSound (a .time) (certificateOf r s)) read) in
+    let own = own-head _ _ s (h .head .ensures) ∙ ap (λ r. certificateOf r s) (p .record .ensures) in
+    let limit = l .limit .ensures ∙ ap limitOf own in
+    let test = sym (c .before .between-sound .ensures ∙ ap (betweenSound (a .time)) own) in
     let room : t .before .loop .i < 16 = omega arith in (
       omega arith,
       omega arith,
@@ -98,13 +90,10 @@ places-between-spec =
     μ-loop
     size-requires
     loop-holds
-    cast-record
-    mul-record
-    element-copy-out-record
+    record-requires
     head-requires
     limit-requires
     cast-limits
-    mul-limits
     array-write-limits
     between-sound-requires
     with-requires

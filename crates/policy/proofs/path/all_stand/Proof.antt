@@ -37,14 +37,14 @@ has-requires c κs = search needs
 sub-if3 : tie.Need-sub-if3 Inv-loop μ-loop
 sub-if3 c = search needs
 
-cast-if3 : tie.Need-cast-if3 Inv-loop μ-loop
-cast-if3 c = search needs
+cast-wide : tie.Need-cast-wide Inv-loop μ-loop
+cast-wide c = search needs
 
-mul-if3 : tie.Need-mul-if3 Inv-loop μ-loop
-mul-if3 c = search needs
+element-copy-out-wide : tie.Need-element-copy-out-wide Inv-loop μ-loop
+element-copy-out-wide c = search needs
 
-element-copy-out-if3 : tie.Need-element-copy-out-if3 Inv-loop μ-loop
-element-copy-out-if3 c = search needs
+wide-requires : tie.Need-wide-requires Inv-loop μ-loop
+wide-requires c κs = search needs
 
 add-i : tie.Need-add-i Inv-loop μ-loop
 add-i c = search needs
@@ -54,18 +54,20 @@ loop-less c = search needs
 
 loop-again : tie.Need-loop-again Inv-loop μ-loop
 loop-again c =
-    let p = c .before .before .before .before in
+    let w = c .before in
+    let p = w .before .before .before .before in
     let t = p .before .before in
     let i = t .before .loop .inv in
-    let h = sym (c .before .before .before .has .ensures) ∙ c .before .before .if2 .taken in
-    (omega arith, i .1 ∙ stand-goes-on _ _ _ _ (i .0) (t .loop-test .taken) (p .if1 .left) h (c .if3 .taken))
+    let h = sym (w .before .before .before .has .ensures) ∙ w .before .before .if2 .taken in
+    (omega arith, i .1 ∙ stand-goes-on _ _ _ _ (i .0) (t .loop-test .taken) (p .if1 .left) h (rw (w .wide .ensures) at (c .if3 .taken)))
 
 returns-2 : tie.Need-returns-2 Inv-loop μ-loop
 returns-2 c =
-    let p = c .before .before .before .before in
+    let w = c .before in
+    let p = w .before .before .before .before in
     let t = p .before .before in
     let i = t .before .loop .inv in
-    sym (i .1 ∙ stand-far _ _ _ _ (i .0) (t .loop-test .taken) (p .if1 .left) (c .if3 .left))
+    sym (i .1 ∙ stand-far _ _ _ _ (i .0) (t .loop-test .taken) (p .if1 .left) (rw (w .wide .ensures) at (c .if3 .left)))
 
 returns-3 : tie.Need-returns-3 Inv-loop μ-loop
 returns-3 c =
@@ -89,9 +91,9 @@ all-stand-spec =
     returns
     has-requires
     sub-if3
-    cast-if3
-    mul-if3
-    element-copy-out-if3
+    cast-wide
+    element-copy-out-wide
+    wide-requires
     add-i
     loop-less
     loop-again

@@ -29,23 +29,24 @@ has-requires c κs = search needs
 has-requires-2 : tie.Need-has-requires-2 Inv-loop μ-loop
 has-requires-2 c κs = search needs
 
-cast-if3 : tie.Need-cast-if3 Inv-loop μ-loop
-cast-if3 c = search needs
+cast-wide : tie.Need-cast-wide Inv-loop μ-loop
+cast-wide c = search needs
 
-mul-if3 : tie.Need-mul-if3 Inv-loop μ-loop
-mul-if3 c = search needs
+element-copy-out-wide : tie.Need-element-copy-out-wide Inv-loop μ-loop
+element-copy-out-wide c = search needs
 
-element-copy-out-if3 : tie.Need-element-copy-out-if3 Inv-loop μ-loop
-element-copy-out-if3 c = search needs
+wide-requires : tie.Need-wide-requires Inv-loop μ-loop
+wide-requires c κs = search needs
 
 returns : tie.Need-returns Inv-loop μ-loop
 returns c =
-    let s = c .before .before in
+    let w = c .before in
+    let s = w .before .before in
     let i = s .before .before in
     let t = i .before .before in
     let issues = sym (i .before .has .ensures) ∙ i .if1 .taken in
     let sound = sym (s .before .has2 .ensures) ∙ s .if2 .taken in
-    sym (ap topOf (t .before .loop .inv .1 ∙ above-found _ _ _ _ _ (t .loop-test .taken) issues sound (c .if3 .taken)) ∙ rw (lt-ltb _ 32 (t .loop-test .taken)))
+    sym (ap topOf (t .before .loop .inv .1 ∙ above-found _ _ _ _ _ (t .loop-test .taken) issues sound (rw (w .wide .ensures) at (c .if3 .taken))) ∙ rw (lt-ltb _ 32 (t .loop-test .taken)))
 
 add-r : tie.Need-add-r Inv-loop μ-loop
 add-r c = search needs
@@ -60,7 +61,7 @@ loop-again c =
     let a = t .before .before .args in (
       omega arith,
       _∙_ {c = lowestFrom (a .issued) (a .above) (a .limits .now) (a .n) (t .before .loop .r + 1)} (t .before .loop .inv .1)
-          (⊎-elim (λ w. far _ _ _ _ _ k (w .4 .left))
+          (⊎-elim (λ w. far _ _ _ _ _ k (rw (w .4 .ensures) at (w .5 .left)))
           (⊎-elim (λ w. unsound _ _ _ _ _ k (sym (w .1 .ensures) ∙ w .2 .left)) (λ w. unissued _ _ _ _ _ k (sym (c .before .has .ensures) ∙ w .left)))
           (c .if1 .came)),
     )
@@ -78,9 +79,9 @@ lowest-above-spec =
     cast-loop
     has-requires
     has-requires-2
-    cast-if3
-    mul-if3
-    element-copy-out-if3
+    cast-wide
+    element-copy-out-wide
+    wide-requires
     returns
     add-r
     loop-less

@@ -1,17 +1,17 @@
 -- `in_date` answers whether a time lies between a certificate's two dates, by the record's numbers. Assumes nothing.
 use borrow.Author.Tests.{le-leb, lt-leb}
-use Rattle.record.specs.Certificate.{certificateOf}
+use Rattle.record.specs.Certificate.{certificateBy}
 use Rattle.rules.specs.Rules.{inDate}
 use Rattle.rules.proofs.rules.in_date.Statement.{statement}
 use Rattle.rules.proofs.rules.in_date.Tie as tie
 
 returns : tie.Need-returns
-unfolding inDate certificateOf
-returns c = λ cert s h. rw (← h, lt-leb _ _ (c .if1 .taken))
+unfolding inDate certificateBy
+returns c = λ cert s. rw (lt-leb _ _ (c .if1 .taken))
 
 returns-2 : tie.Need-returns-2
-unfolding inDate certificateOf
-returns-2 c = λ cert s h. rw (← h, le-leb _ _ (c .before .if1 .left))
+unfolding inDate certificateBy
+returns-2 c = λ cert s. rw (le-leb _ _ (c .before .if1 .left))
 
 pub in-date-spec : {M : Type 1} → statement M
 in-date-spec = tie.close (tie.spec returns returns-2)

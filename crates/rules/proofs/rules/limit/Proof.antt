@@ -12,10 +12,10 @@ cast-result : tie.Need-cast-result
 cast-result c = omega (arith, path-length-byte _ _ _ _ (c .before .extensions .ensures))
 
 returns : tie.Need-returns
-returns c = λ h. limit-given _ _ _ h (c .before .before .if1 .taken) _ (c .before .extensions .ensures)
+returns c = limit-given _ _ _ (c .before .before .if1 .taken) _ (c .before .extensions .ensures)
 
 returns-2 : tie.Need-returns-2
-returns-2 c = λ h. no-limit _ _ _ h (c .if1 .left)
+returns-2 c = no-limit _ _ _ (c .if1 .left)
 
 pub limit-spec : {M : Type 1} → statement M
 limit-spec = tie.close (tie.spec extensions-requires cast-result returns returns-2)

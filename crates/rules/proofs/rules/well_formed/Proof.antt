@@ -2,14 +2,14 @@
 use mathlib.Core.Path.{_∙_}
 use borrow.Author.Tests.{eq-eqb, ne-eqb}
 use borrow.Author.Needs.{needs}
-use Rattle.record.specs.Certificate.{certificateOf}
+use Rattle.record.specs.Certificate.{certificateBy}
 use Rattle.rules.specs.Rules.{wellFormed}
 use Rattle.rules.proofs.rules.well_formed.Statement.{statement}
 use Rattle.rules.proofs.rules.well_formed.Tie as tie
 
 returns : tie.Need-returns
-unfolding wellFormed certificateOf
-returns c = λ h. rw (← h, ne-eqb _ _ (c .if1 .taken))
+unfolding wellFormed certificateBy
+returns c = rw (ne-eqb _ _ (c .if1 .taken))
 
 strings-requires : tie.Need-strings-requires
 strings-requires c κs = search needs
@@ -24,12 +24,12 @@ equal-requires : tie.Need-equal-requires
 equal-requires c κs = search needs
 
 returns-2 : tie.Need-returns-2
-unfolding wellFormed certificateOf
-returns-2 c = λ h.
+unfolding wellFormed certificateBy
+returns-2 c =
     let q = c .before in
     let p = q .before in
     let t = p .before in
-    c .equal .ensures ∙ rw (p .part .ensures, q .part2 .ensures, t .strings .ensures, ← h, eq-eqb _ _ (t .before .if1 .left))
+    c .equal .ensures ∙ rw (p .part .ensures, q .part2 .ensures, t .strings .ensures, eq-eqb _ _ (t .before .if1 .left))
 
 pub well-formed-spec : {M : Type 1} → statement M
 well-formed-spec =
