@@ -1,6 +1,6 @@
 -- Records in so many places, for any number of places: a loop that has filled them has read a row, whatever value is made of its
--- count and its records (`row-ends`); how many records there are (`size-within`, `size-counted`); and the record at a place by the
--- tests of its place (`record-none`, `record-outside`, `record-there`), or below the size (`record-counted`). Assumes nothing.
+-- count and its records (`row-ends`); how many records there are (`size-within`); and the record at a place by the
+-- tests of its place (`record-none`, `record-outside`, `record-there`). Assumes nothing.
 use Prim.Native.Nat.{ℕ, _<_, _≤_}
 use mathlib.Core.Path.{_≡_, refl}
 use mathlib.Core.Bool.{Bool, true, false, cond}
@@ -8,7 +8,7 @@ use mathlib.Core.List.{List}
 use native.Mathlib.Omega.{arith}
 use lib.Dec.{leb}
 use lib.ListN.{length, getD, List·getD-eq-default}
-use borrow.Author.Tests.{lt-ltb, le-ltb, leb-true, leb-false}
+use borrow.Author.Tests.{lt-ltb, le-ltb, leb-true}
 use Rattle.fields.specs.Fields.{got, after, many}
 use Rattle.fields.proofs.Many.{many-length}
 use Rattle.fields.proofs.Filling.{Filling, filling-ends}
@@ -35,14 +35,6 @@ module _ (most count : ℕ) where
       by-test true h = leb-true count most h
       by-test false h = omega arith
 
-  size-counted : sizeOf most count ≤ count
-  unfolding sizeOf
-  size-counted = by-test (leb count most) refl
-    where
-      by-test : (b : Bool) → leb count most ≡ b → cond b count most ≤ count
-      by-test true h = omega arith
-      by-test false h = omega (arith, leb-false count most h)
-
 module _ (count : ℕ) (records : List Record) (place : ℕ) where
   pub record-none : count ≤ place → fresh ≡ recordOf count records place
   unfolding recordOf
@@ -57,7 +49,3 @@ module _ (count : ℕ) (records : List Record) (place : ℕ) where
   pub record-there : place < count → getD records place fresh ≡ recordOf count records place
   unfolding recordOf
   record-there h = rw (lt-ltb place count h)
-
--- a loop that ends at the size or before it reads the record of its place
-pub record-counted : (most count : ℕ) (records : List Record) (n i : ℕ) → n ≡ sizeOf most count → i < n → getD records i fresh ≡ recordOf count records i
-record-counted most count records n i e h = record-there count records i (omega (arith, e, size-counted most count))

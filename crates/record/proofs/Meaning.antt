@@ -18,8 +18,8 @@ use Rattle.extensions.specs.Extensions.{keyIdsP, pathLengthP, extensionsP}
 use Rattle.extensions.specs.declared.Extensions.{Extensions}
 use Rattle.extensions.proofs.Meaning.{ExtensionsRead, extensions-read}
 use Rattle.record.specs.Record.{paired, flagsP, datesP, headP, stringsP, namesP, placeOf, placed, recordP}
-use Rattle.record.specs.Fresh.{no-head, no-strings, no-extensions}
-use Rattle.record.specs.Parts.{valueOr, headOf, stringsOf, extensionsOf}
+use Rattle.record.specs.Fresh.{no-head, no-extensions}
+use Rattle.record.specs.Parts.{valueOr, headOf, extensionsOf}
 use Rattle.record.specs.Certificate.{certificateBy, certificateOf, listOf}
 use Rattle.record.specs.declared.head.Head.{Head}
 use Rattle.record.specs.declared.strings.Strings.{Strings}
@@ -215,13 +215,16 @@ module _ (s : List ℕ) (r : Record) (e : ℕ) (t : RecordRead s r e) where
   unfolding headOf
   head-of = ap (valueOr no-head) (t .head)
 
-  pub strings-of : stringsOf r s ≡ t .strings-are
-  unfolding stringsOf
-  strings-of = ap (valueOr no-strings) (t .strings)
-
   pub extensions-of : extensionsOf (headOf r s .flags) r s ≡ t .extensions-are
   unfolding extensionsOf
   extensions-of = ap (λ (h : Head). valueOr no-extensions (extensionsP (h .flags) s (r .rest))) head-of ∙ ap (valueOr no-extensions) (t .extensions)
+
+  -- its parts within their limits
+  pub head-read-of : FlagsRead (t .head-is .version) (t .head-is .flags)
+  head-read-of = head-read s _ _ _ (t .head)
+
+  pub strings-read-of : StringsRead s (r .start + 18) (t .strings-are) (r .issuer)
+  strings-read-of = strings-read s _ _ _ (t .strings)
 
   pub extensions-read-of : ExtensionsRead (t .head-is .flags) s (r .rest) (t .extensions-are) e
   extensions-read-of = extensions-read _ s _ _ _ (t .extensions)

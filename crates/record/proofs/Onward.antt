@@ -6,14 +6,13 @@ use mathlib.Core.Bool.{Bool, true, false, cond}
 use mathlib.Core.List.{List, _∷_}
 use native.Mathlib.Omega.{arith}
 use lib.Dec.{leb}
-use lib.ListN.{length}
-use Rattle.fields.specs.Fields.{Parsed, got, stop, after, countP, spanP, stringP, bigP, many, countedP, byteP}
+use Rattle.fields.specs.Fields.{Parsed, got, stop, after, countP, spanP, stringP, many, countedP, byteP}
 use Rattle.fields.proofs.Counts.{count-read}
 use Rattle.fields.proofs.Strings.{span-read}
 use Rattle.names.specs.Names.{attrP, rdnP, nameP}
 use Rattle.lists.specs.Lists.{usageP, usagesP, dnsNameP, dnsNamesP, rowP}
 use Rattle.extensions.specs.Extensions.{flag, optionP, keyIdsP, pathLengthP, extensionsP}
-use Rattle.record.specs.Record.{paired, flagsP, datesP, headP, stringsP}
+use Rattle.record.specs.Record.{stringsP}
 
 -- ---- any things
 
@@ -54,10 +53,6 @@ module _ (s : List ℕ) where
   unfolding stringP
   string-onward least most at =
       onward-after (spanP least most s at) _ (span-onward least most at) (λ p e. onward-got e _ e (omega arith))
-
-  big-onward : (width at : ℕ) → Onward at (bigP width s at)
-  unfolding bigP
-  big-onward width at = onward-judged (leb (at + width) (length s)) _ 6 (onward-got at _ (at + width) (omega arith))
 
 module _ {A : Type 0} (p : List ℕ → ℕ → Parsed A) (s : List ℕ) (on : (at : ℕ) → Onward at (p s at)) where
   many-onward : (n at : ℕ) → Onward at (many p n s at)
@@ -101,27 +96,6 @@ module _ (s : List ℕ) where
   byte-onward : (at : ℕ) → Onward at (byteP s at)
   unfolding byteP
   byte-onward at = no-earlier (count-onward s 0 255 at)
-
-  flags-onward : (at : ℕ) → Onward at (flagsP s at)
-  unfolding flagsP
-  flags-onward at =
-      onward-after (byteP s at) _ (byte-onward at) (λ v e.
-      onward-after (byteP s e) _ (byte-onward e) (λ w f.
-      onward-judged (paired w) _ 8 (onward-got f _ f (omega arith))))
-
-  dates-onward : (at : ℕ) → Onward at (datesP s at)
-  unfolding datesP
-  dates-onward at =
-      onward-after (bigP 8 s at) _ (big-onward s 8 at) (λ b e.
-      onward-after (bigP 8 s e) _ (big-onward s 8 e) (λ a f.
-      onward-got f _ f (omega arith)))
-
-  pub head-onward : (at : ℕ) → Onward at (headP s at)
-  unfolding headP
-  head-onward at =
-      onward-after (flagsP s at) _ (flags-onward at) (λ v e.
-      onward-after (datesP s e) _ (dates-onward e) (λ d f.
-      onward-got f _ f (omega arith)))
 
   pub strings-onward : (at : ℕ) → Onward (at + 1) (stringsP s at)
   unfolding stringsP

@@ -33,10 +33,10 @@ ghost use Rattle.record.specs.Answers.{recorded};
 
 // A record that was read: where it starts, where its two names start, and where what is behind them starts.
 pub struct Record {
-    pub start: u16,
-    pub issuer: u16,
-    pub subject: u16,
-    pub rest: u16,
+    start: u16,
+    issuer: u16,
+    subject: u16,
+    rest: u16,
 }
 
 impl Record {
@@ -49,7 +49,7 @@ impl Record {
     pub const ALGORITHM_MOST: usize = 32;
 
     // The bytes of a head.
-    pub const HEAD: usize = 18;
+    const HEAD: usize = 18;
 
     // The record that stands where none was read: nothing but zeros.
     pub fn new() -> Record
