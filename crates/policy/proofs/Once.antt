@@ -1,7 +1,7 @@
 -- What the tests of one certificate come to: what is asked of it between leaf and root, as the root and as the leaf, by the first test
 -- that fails, and the roots above by the leaf. Assumes nothing.
 use Prim.Native.Nat.{ℕ}
-use mathlib.Core.Bool.{Bool, true, false, _&&_}
+use mathlib.Core.Bool.{Bool, true, false, _&&_, and-true, and-false}
 use mathlib.Core.List.{List}
 use mathlib.Core.Path.{_≡_, sym}
 use Rattle.fields.specs.Fields.{bytesOf}
@@ -27,6 +27,10 @@ module _ (time : ℕ) (c : Certificate) where
   unfolding betweenSound
   between-undated e = rw e
 
+  pub between-no-authority : authority c ≡ false → betweenSound time c ≡ false
+  unfolding betweenSound
+  between-no-authority e = rw (e, and-false)
+
   module _ (dated : inDate time c ≡ true) where
     pub top-unhandled : handled c ≡ false → topSound time c ≡ false
     unfolding topSound
@@ -36,18 +40,13 @@ module _ (time : ℕ) (c : Certificate) where
     unfolding topSound
     top-asked e = rw (dated, e)
 
-    pub between-unformed : wellFormed c ≡ false → betweenSound time c ≡ false
+    pub between-unhandled : handled c ≡ false → betweenSound time c ≡ false
     unfolding betweenSound
-    between-unformed e = rw (dated, e)
+    between-unhandled e = rw (dated, e, and-false)
 
-    module _ (formed : wellFormed c ≡ true) where
-      pub between-unhandled : handled c ≡ false → betweenSound time c ≡ false
-      unfolding betweenSound
-      between-unhandled e = rw (dated, formed, e)
-
-      pub between-asked : handled c ≡ true → betweenSound time c ≡ authority c
-      unfolding betweenSound
-      between-asked e = rw (dated, formed, e)
+    pub between-asked : handled c ≡ true → authority c ≡ true → betweenSound time c ≡ wellFormed c
+    unfolding betweenSound
+    between-asked told e = rw (dated, told, e, and-true, and-true)
 
 module _ (s : List ℕ) (time : ℕ) (host : List ℕ) (r : Record) where
   pub leaf-undated : inDate time (certificateOf r s) ≡ false → leafSoundAt s time host r ≡ false

@@ -92,14 +92,15 @@ fn leaf_serves(file: &[u8], host: &[u8], extensions: Extensions) -> bool
     false
 }
 
-// What is asked of a certificate between leaf and root, its path length aside.
+// What is asked of a certificate between leaf and root, its path length aside. Its strings are compared last, since most that fail are
+// no authorities, as the leaf.
 fn between_sound(file: &[u8], time: u64, head: Head, cert: Record) -> bool
     ensures { λ r. ⌜ r ≡ betweenSound time (certificateBy head cert (now (file .entry))) ⌝ }
 {
     if in_date(time, head) {
-        if well_formed(file, head, cert) {
-            if handled(head) {
-                return authority(head);
+        if handled(head) {
+            if authority(head) {
+                return well_formed(file, head, cert);
             }
         }
     }
