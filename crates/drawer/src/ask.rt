@@ -51,7 +51,7 @@ fn two(label: &[u8], question: &[u8], a: &[u8], b: &[u8]) {
         0 => normal_form(label, a, b),
         1 => say::reply(label, say::yes_no(match_name(a, b))),
         2 => say::reply(label, say::yes_no(ip_addr_in_range(a, b))),
-        3 => believe::lowest(label, a, b),
+        3 => believe::lowest_root(label, a, b),
         _ => say::reply(label, UNKNOWN),
     }
 }

@@ -1,17 +1,26 @@
-// A path judged in a whole card file: the card is read, who issued whom is filled, each certificate is judged once.
+// A path judged in a whole card file: the card is read, who issued whom is filled, each certificate is judged once, and the path's standing
+// goes on place by place.
 use crate::say;
+use card::Bundle;
 use card::Card;
 use card::Outcome;
 use card::read;
 use issuing::Issuing;
 use issuing::who_issued;
 use policy::Judged;
-use policy::Top;
+use policy::Seats;
+use policy::Standing;
+use policy::added;
+use policy::begun;
 use policy::judge;
-use policy::lowest_root;
+use policy::over;
+use policy::seats_of;
+use rows::Row;
+use rows::lowest;
+use rows::shared;
 
 // lowest_root|PATH|CARD
-pub(crate) fn lowest(label: &[u8], path: &[u8], file: &[u8]) {
+pub(crate) fn lowest_root(label: &[u8], path: &[u8], file: &[u8]) {
     let reading = read(file);
     let outcome = reading.outcome;
     if let Outcome::Stop(fault) = outcome {
@@ -21,7 +30,9 @@ pub(crate) fn lowest(label: &[u8], path: &[u8], file: &[u8]) {
     say::top(label, top_of(path, file, reading.card));
 }
 
-fn top_of(path: &[u8], file: &[u8], card: Card) -> Top {
+// The lowest root by which a path qualifies; as many as a row has room for where there is none. An empty path has none, nor has one with a
+// byte that is no place.
+fn top_of(path: &[u8], file: &[u8], card: Card) -> u8 {
     top_judged(
         path,
         who_issued(file, card),
@@ -29,17 +40,44 @@ fn top_of(path: &[u8], file: &[u8], card: Card) -> Top {
     )
 }
 
-// The lowest root by which a path qualifies.
-fn top_judged(path: &[u8], issuing: Issuing, judged: Judged) -> Top {
+fn top_judged(path: &[u8], issuing: Issuing, judged: Judged) -> u8 {
+    let n = path.len();
+    if n == 0 {
+        return Row::PLACES;
+    }
+    if !is_place(path[0]) {
+        return Row::PLACES;
+    }
+    let last = path[n - 1];
     let issued = issuing.roots;
-    let limits = judged.between.limits;
-    let tops = judged.above.limits;
-    lowest_root(
-        path,
-        &issued,
-        judged.between.sound,
-        &limits,
-        judged.above.sound,
-        &tops,
-    )
+    let seats = seats_of(judged);
+    let rows = seats.rows;
+    lowest(shared(
+        over(standing_before(path, &rows), last),
+        issuers(&issued, last),
+    ))
+}
+
+// The leaf's byte is asked so since any place may be begun with; those after it are by the seats.
+fn is_place(byte: u8) -> bool {
+    (byte as usize) < Bundle::MOST
+}
+
+// The roots that issued a place; none where the byte is no place.
+fn issuers(issued: &[u64; Bundle::MOST], place: u8) -> u64 {
+    if Bundle::MOST <= place as usize {
+        return 0;
+    }
+    issued[place as usize]
+}
+
+// How a path stands that is to go on by its last place.
+fn standing_before(path: &[u8], seats: &[u64; Seats::ROWS]) -> Standing {
+    let mut standing = begun(seats);
+    let mut next = 1;
+    while next < path.len() {
+        standing = added(seats, standing, path[next - 1]);
+        next += 1;
+    }
+    standing
 }

@@ -1,7 +1,7 @@
 // What is written: one line for each case, its label and the reply.
 use crate::lines::part;
 use libc::STDOUT_FILENO;
-use policy::Top;
+use rows::Row;
 use text::Normalized;
 
 // A reply is a number: 0 is no, 1 is yes, a fault has its own up to 10, and this one is that there is no such question.
@@ -34,14 +34,13 @@ pub(crate) fn normalised(label: &[u8], reply: Normalized, room: &[u8; 8]) {
 }
 
 // The root above a path, or that there is none.
-pub(crate) fn top(label: &[u8], top: Top) {
+pub(crate) fn top(label: &[u8], root: u8) {
     put(label);
-    match top {
-        Top::Root(place) => {
-            put(b": root ");
-            io::print_decimal(STDOUT_FILENO, place.0 as u64);
-        }
-        Top::None => put(b": no root"),
+    if root < Row::PLACES {
+        put(b": root ");
+        io::print_decimal(STDOUT_FILENO, root as u64);
+    } else {
+        put(b": no root");
     }
     put(b"\n");
 }

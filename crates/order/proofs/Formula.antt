@@ -13,10 +13,6 @@ slots-formula n h k = rw (le-leb 1 n h, le-leb n 16 k)
 pub slots-past : (n : ℕ) → 16 < n → slotsOf n ≡ 0
 slots-past n h = rw (le-leb 1 n (omega arith), lt-leb n 16 h)
 
--- one certificate or more need a slot
-pub slots-some : (n : ℕ) → 1 ≤ n → n ≤ 16 → 1 ≤ slotsOf n
-slots-some n h k = rw (slots-formula n h k) (omega arith)
-
 formula-most : (n : ℕ) → n ≤ 16 → formula n ≤ 106
 formula-most n h =
     let a : n - 1 ≤ 15 = omega arith in

@@ -56,17 +56,24 @@ abbrev pub pop : Places → List (List ℕ) → List (List ℕ)
 pop g [] = []
 pop g (p ∷ s) = kids g p ++ s
 
--- the stack after k steps
-abbrev pub stack : Places → ℕ → List (List ℕ)
-stack g zero = (0 ∷ []) ∷ []
-stack g (suc k) = pop g (stack g k)
+-- the stack s after k steps
+abbrev pub pops : Places → ℕ → List (List ℕ) → List (List ℕ)
+pops g zero s = s
+pops g (suc k) s = pop g (pops g k s)
 
 -- the top, where there is one
 abbrev pub top : List (List ℕ) → List (List ℕ)
 top [] = []
 top (p ∷ s) = p ∷ []
 
--- what the stack handed out in k steps, the first one first
+-- what the stack s hands out in k steps, the first one first
+abbrev pub tops : Places → ℕ → List (List ℕ) → List (List ℕ)
+tops g zero s = []
+tops g (suc k) s = tops g k s ++ top (pops g k s)
+
+-- the stack of a search after k steps, and what it handed out
+abbrev pub stack : Places → ℕ → List (List ℕ)
+stack g k = pops g k ((0 ∷ []) ∷ [])
+
 abbrev pub taken : Places → ℕ → List (List ℕ)
-taken g zero = []
-taken g (suc k) = taken g k ++ top (stack g k)
+taken g k = tops g k ((0 ∷ []) ∷ [])

@@ -1,7 +1,9 @@
+pub mod Adding
 pub mod Chains
+pub mod Filling
 pub mod Frauds
 pub mod Once
-pub mod Paths
 pub mod Places
 pub mod Qualified
+pub mod Qualifying
 pub mod Seats

@@ -1,11 +1,16 @@
 // What is believed: the policy on a chain, from the leaf to a root, made of the seven rules. What can be judged once per certificate is,
-// and a path is judged by its places.
+// and a path stands by its places, one after another.
 mod judged;
-mod path;
+mod seating;
+mod standing;
 
 pub use judged::Above;
 pub use judged::Between;
 pub use judged::Judged;
 pub use judged::judge;
-pub use path::Top;
-pub use path::lowest_root;
+pub use seating::Seats;
+pub use seating::seats_of;
+pub use standing::Standing;
+pub use standing::added;
+pub use standing::begun;
+pub use standing::over;

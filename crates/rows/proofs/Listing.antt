@@ -1,5 +1,5 @@
 -- A loop that puts a number at each place: it begins with zeros (`listing-none`), each turn puts one more (`listing-next`), and
--- what stands at a place is what was put there (`listing-at`). Assumes nothing.
+-- what stands at a place is what was put there (`listing-at`). Zeros alone: `getD-zeros`. Assumes nothing.
 use Prim.Native.Nat.{ℕ, zero, suc, _+_, _-_, _<_, _≤_}
 use mathlib.Core.Path.{_≡_, refl, sym, ap, _∙_}
 use mathlib.Core.Bool.{Bool, true, false, cond}
@@ -17,7 +17,7 @@ replicate-first : (n : ℕ) → 0 < n → replicate {A = ℕ} n 0 ≡ 0 ∷ repl
 replicate-first zero h = absurd (omega arith)
 replicate-first (suc n) h = let k : suc n - 1 ≡ n = omega arith in rw k
 
-getD-zeros : (n i : ℕ) → getD (replicate {A = ℕ} n 0) i 0 ≡ 0
+pub getD-zeros : (n i : ℕ) → getD (replicate {A = ℕ} n 0) i 0 ≡ 0
 getD-zeros zero i = refl
 getD-zeros (suc n) zero = refl
 getD-zeros (suc n) (suc i) = getD-zeros n i

@@ -1,8 +1,9 @@
 -- What the places of a row are, for those who keep sets in rows.
 -- One place: `has-at`, `has-past`, `joined-at`, `joined-past` by its number, then `has-none`, `has-joined`, `has-left`, `has-common` for what makes a row.
 -- The row of a test: `has-row`; `row-none`, `row-more`, `row-kept` for a loop.
--- The first that passes a test: `seek-least` says in words what it is, `seek-is` that nothing else is that; `seek-same`.
--- The lowest place: `lowest-least`. A row without its lowest place: `dropped-above`, `dropped-below`, `dropped-later`.
+-- The first that passes a test: `seek-least` says in words what it is.
+-- The lowest place: `lowest-least`. A row without one of its places: `has-dropped`. The highest place is in Upper; that a row is no
+-- more than its places, in Same.
 -- What the code's words say of a row is in Words. Assumes nothing.
 use Prim.Native.Nat.{ℕ, zero, suc, _+_, _/_, _%_, _^_, _≤_, _<_}
 use mathlib.Core.Bool.{Bool, true, false, cond, not, _&&_, _||_, false≢true}
@@ -11,7 +12,7 @@ use mathlib.Core.Path.{_≡_, refl, sym, ap, _∙_}
 use native.Mathlib.Nat.{pow-zero, pow-suc, div-one, div-eq-of-lt, mul-div-mul-right, mul-mod-left, mod-lt, zero-div, eq-or-lt-of-le}
 use native.Mathlib.Numerals.{add-one}
 use native.Mathlib.Omega.{arith}
-use borrow.Author.Tests.{ltb-true, ltb-false, eqb-true, lt-ltb, le-ltb, eq-eqb, ne-eqb}
+use borrow.Author.Tests.{ltb-true, ltb-false, eqb-true, lt-ltb, le-ltb, eq-eqb}
 use lib.Bits.{bitOr, bitAnd, bitXor, or-shr, or-mod, xor-shr, xor-mod, and-shr, and-mod}
 use lib.Dec.{eqb, ltb, lit<, eqb·zero-suc, eqb·suc-zero, eqb·suc-suc}
 use lib.Pow.{pow-lt}
@@ -209,47 +210,13 @@ module _ (test : ℕ → Bool) where
           below : (i : ℕ) → a ≤ i → i < r → test i ≡ false
           below i h k = ⊎-elim (λ q. ap test (sym q) ∙ e) (λ p. l .below i (omega arith) k) (eq-or-lt-of-le h)
 
-  least-one : (a n r s : ℕ) → Least test a n r → Least test a n s → r ≡ s
-  least-one a n r s l m =
-      let k : ¬ (r < s) = λ k. false≢true (sym (m .below r (l .from) k) ∙ l .passes (omega arith)) in
-      let h : ¬ (s < r) = λ h. false≢true (sym (l .below s (m .from) h) ∙ m .passes (omega arith)) in
-      omega arith
-
-  pub seek-is : (a n r : ℕ) → Least test a n r → r ≡ seek test a n
-  seek-is a n r l = least-one a n r (seek test a n) l (seek-least a n)
-
-pub seek-same : (f g : ℕ → Bool) (a n : ℕ) → ((i : ℕ) → a ≤ i → i < a + n → f i ≡ g i) → seek f a n ≡ seek g a n
-unfolding seek
-seek-same f g a zero h = refl
-seek-same f g a (suc n) h =
-    rw (h a (omega arith) (omega arith), seek-same f g (a + 1) n (λ i k m. h i (omega arith) (omega arith)))
-
 -- ---- the lowest place
 
 pub lowest-least : (row : ℕ) → Least (λ i. has i row) 0 64 (lowest row)
 unfolding lowest
 lowest-least row = seek-least (λ i. has i row) 0 64
 
--- a row without its lowest place, for a loop that takes the places one by one
-module _ (row : ℕ) (some : lowest row < 64) where
-  has-dropped : (j : ℕ) → has j (left row (joined 0 (lowest row))) ≡ has j row && not (eqb j (lowest row))
-  has-dropped j = has-left j row (joined 0 (lowest row)) ∙ rw (has-joined j 0 (lowest row), has-none j, lt-ltb (lowest row) 64 some)
+-- ---- a row without one of its places
 
-  pub dropped-above : (j : ℕ) → lowest row < j → has j (left row (joined 0 (lowest row))) ≡ has j row
-  dropped-above j h = has-dropped j ∙ rw (ne-eqb j (lowest row) (λ k. omega arith)) (and-yes (has j row))
-    where
-      and-yes : (t : Bool) → t && true ≡ t
-      and-yes true = refl
-      and-yes false = refl
-
-  pub dropped-below : (j : ℕ) → j ≤ lowest row → has j (left row (joined 0 (lowest row))) ≡ false
-  dropped-below j h = has-dropped j ∙ ⊎-elim
-      (λ e. rw (eq-eqb j (lowest row) e) (and-no (has j row)))
-      (λ l. rw (lowest-least row .below j (omega arith) l))
-      (eq-or-lt-of-le h)
-
-  pub dropped-later : lowest row < lowest (left row (joined 0 (lowest row)))
-  dropped-later =
-      let next : ℕ = left row (joined 0 (lowest row)) in
-      let k : ¬ (lowest next ≤ lowest row) = λ k. false≢true (sym (dropped-below (lowest next) k) ∙ lowest-least next .passes (omega arith)) in
-      omega arith
+pub has-dropped : (row i : ℕ) → i < 64 → (j : ℕ) → has j (left row (joined 0 i)) ≡ has j row && not (eqb j i)
+has-dropped row i h j = has-left j row (joined 0 i) ∙ rw (has-joined j 0 i, has-none j, lt-ltb i 64 h)

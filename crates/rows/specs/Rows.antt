@@ -30,6 +30,18 @@ seek test i (suc n) = cond (test i) i (seek test (i + 1) n)
 unfoldable pub lowest : ℕ → ℕ
 lowest row = seek (λ i. has i row) 0 64
 
+-- the last number below n that passes a test; d where none does
+unfoldable pub final : (ℕ → Bool) → ℕ → ℕ → ℕ
+final test d zero = d
+final test d (suc n) = cond (test n) n (final test d n)
+
+unfoldable pub highest : ℕ → ℕ
+highest row = final (λ i. has i row) 64 64
+
+-- the row of the places below n, of 64
+unfoldable pub below : ℕ → ℕ
+below n = cond (ltb n 64) (2 ^ n - 1) (2 ^ 64 - 1)
+
 -- the row of those places below n that pass a test
 unfoldable pub rowOf : (ℕ → Bool) → ℕ → ℕ
 rowOf test zero = 0

@@ -1,6 +1,6 @@
 // A row: a set of places as the bits of one number. A row has room for more places than any limit asks, so that one width serves all.
 ghost use mathlib.Core.Path.{_≡_};
-ghost use Rattle.rows.specs.Rows.{has, joined, left, common, lowest};
+ghost use Rattle.rows.specs.Rows.{has, joined, left, common, lowest, highest, below};
 
 // The places that a row has room for.
 pub struct Row {}
@@ -48,4 +48,24 @@ pub fn lowest(row: u64) -> u8
     ensures { λ r. ⌜ r ≡ lowest row ⌝ }
 {
     u64::trailing_zeros(row) as u8
+}
+
+// The highest place of a row; as many as a row has room for where it has none.
+pub fn highest(row: u64) -> u8
+    ensures { λ r. ⌜ r ≡ highest row ⌝ }
+{
+    if row == 0 {
+        return Row::PLACES;
+    }
+    (63 - u64::leading_zeros(row)) as u8
+}
+
+// The row of the places below n; all that a row has room for where n is more.
+pub fn below(n: u8) -> u64
+    ensures { λ r. ⌜ r ≡ below n ⌝ }
+{
+    if Row::PLACES <= n {
+        return u64::MAX;
+    }
+    (1u64 << n) - 1
 }

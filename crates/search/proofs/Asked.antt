@@ -18,9 +18,11 @@ use Rattle.card.specs.declared.Outcome.the-variants.{Read, Stop}
 use Rattle.card.proofs.Sections.{CardRead, card-read}
 use Rattle.card.proofs.Stops.{WasRead, answered-read}
 use Rattle.order.specs.Paths.{Places}
+use Rattle.policy.specs.Judging.{qualifiesBy}
+use Rattle.policy.specs.declared.judged.Judged.{Judged}
 use Rattle.steps.specs.declared.Answer.{Answer}
 use Rattle.steps.specs.declared.Reply.the-variants as reply
-use Rattle.steps.specs.Answer.{told, pathShown, Paused, Searched, Stops, Answered, placesBy, rootsBy, placesOf, rootsOf, fault}
+use Rattle.steps.specs.Answer.{told, pathShown, Paused, Searched, Stops, Answered, placesBy, placesOf, rootsOf, fault}
 use Rattle.steps.specs.Settles.{Roots}
 use Rattle.steps.proofs.Agree.{paused-agree, searched-agree}
 use Rattle.search.specs.declared.Question.{Question}
@@ -31,10 +33,10 @@ use Rattle.search.proofs.Meaning.{size-read, places-read, rootsRead, qu
 answered-map : {P Q : Type 0} {e : ℕ} {before after : List ℕ} {a : Answer} → (P → Q) → Answered P e before after a → Answered Q e before after a
 answered-map f x = record { runs = λ h. f (x .runs h); stops = x .stops }
 
-same-roots : {rows more : List ℕ} {sound whole : ℕ} {limits bounds : List ℕ} {above over : ℕ} {tops tips : List ℕ}
-    → rows ≡ more → sound ≡ whole → limits ≡ bounds → above ≡ over → tops ≡ tips
-    → rootsBy rows sound limits above tops ≡ rootsBy more whole bounds over tips
-same-roots a b c d e = rw (a, b, c, d, e)
+same-judged : {sound whole : ℕ} {limits bounds : List ℕ} {above over : ℕ} {tops tips : List ℕ} → sound ≡ whole → limits ≡ bounds → above ≡ over → tops ≡ tips
+    → _≡_ {A = Judged} (record { between = record { sound = sound; limits = limits }; above = record { sound = above; limits = tops } })
+    (record { between = record { sound = whole; limits = bounds }; above = record { sound = over; limits = tips } })
+same-judged a b c d = rw (a, b, c, d)
 
 -- the same question, in other words
 module _ {g h : Places} {w v : Roots} {k n m : ℕ} {before after : List ℕ} {a : Answer} where
@@ -68,7 +70,7 @@ module _ (s : List ℕ) (reading : Reading) (says : tells reading ≡ answer (fi
     places = ap₂ placesBy (p .bundle) (p .size) ∙ places-read s c (w .end) t
 
     roots : rootsOf (q .issuing) (q .judged) ≡ rootsRead s c (w .end) t
-    roots = same-roots (p .roots) (p .sound) (p .limits) (p .above) (p .tops)
+    roots = ap₂ (λ rows j. record { count = 32; good = qualifiesBy rows j }) (p .roots) (same-judged (p .sound) (p .limits) (p .above) (p .tops))
 
     budget : q .budget ≡ contentOf c s .budget
     unfolding contentOf

@@ -5,7 +5,7 @@ use mathlib.Core.List.{List, [], _∷_, List·Memᴰ·head as here, List·Memᴰ
 use mathlib.Core.Path.{_≡_, refl, sym, ap₂, _∙_, fun-ext}
 use Prim.Native.Nat.{ℕ, _<_}
 use native.Mathlib.Omega.{arith}
-use borrow.Author.Tests.{lt-ltb, ltb-true, ltb-false}
+use borrow.Author.Tests.{ltb-true, ltb-false}
 use lib.Dec.{ltb}
 use lib.ListN.{length}
 use Rattle.certificates.specs.Certificates.{sizeOf}
@@ -14,16 +14,16 @@ use Rattle.card.specs.declared.Card.{Card}
 use Rattle.card.proofs.Sections.{CardRead}
 use Rattle.card.proofs.Standing.{roots-counted, roots-few, bundle-counted, bundle-few}
 use Rattle.issuing.specs.Issued.{issued}
-use Rattle.issuing.specs.Records.{bundleRows, rootRows}
+use Rattle.issuing.specs.Records.{bundleRows}
 use Rattle.issuing.proofs.Agrees.{size-is, bundle-row-agrees}
 use Rattle.order.specs.Listing.{_among_}
-use Rattle.order.specs.Paths.{Simple, last}
+use Rattle.order.specs.Paths.{Simple}
 use Rattle.order.proofs.Simple.{simple-length}
+use Rattle.policy.specs.Judging.{qualifiesBy}
 use Rattle.policy.specs.Qualifies.{qualifies}
-use Rattle.policy.specs.Sound.{soundPlaces, placeLimits, rootsAbove, rootLimits}
-use Rattle.policy.proofs.Qualified.{root-judged, qualifies-there, last-inside}
+use Rattle.policy.proofs.Qualified.{rows, judged, root-judged, qualifies-there}
 use Rattle.policy.proofs.Seats.{Inside}
-use Rattle.steps.specs.Answer.{placesBy, rootsBy, qualifiesBy}
+use Rattle.steps.specs.Answer.{placesBy}
 use Rattle.steps.specs.Settles.{Roots, QualifiesBy}
 use Rattle.search.specs.Search.{placesIn, rootsIn}
 
@@ -48,12 +48,9 @@ module _ (s : List ℕ) (c : Card) (e : ℕ) (t : CardRead s c e) where
 
   -- the roots as rows and judged places say them
   abbrev pub rootsRead : Roots
-  rootsRead =
-      rootsBy (rootRows s (c .roots) (c .bundle) (c .verdicts)) (soundPlaces s (c .task .now) (c .bundle))
-      (placeLimits s (c .bundle)) (rootsAbove s (c .task .now) c) (rootLimits s (c .roots))
+  rootsRead = record { count = 32; good = qualifiesBy (rows s c e t) (judged s c e t) }
 
   qualifies-read : (p : List ℕ) (r : ℕ) → Simple (placesIn content) p → rootsRead .good p r ≡ qualifies content p r
-  unfolding qualifiesBy
   qualifies-read p r h = from-leaf (h .start .0) (h .start .1)
     where
       from-leaf : (l : List ℕ) → p ≡ 0 ∷ l → rootsRead .good p r ≡ qualifies content p r
@@ -63,9 +60,7 @@ module _ (s : List ℕ) (c : Card) (e : ℕ) (t : CardRead s c e) where
           let m = bundle-few s c e t in
           let k = simple-length (placesIn content) h′ in
           let inside : Inside (c .bundle .count) l = inside-all (c .bundle .count) l (λ x y. let z = h′ .inside x (there y) in omega arith) in
-          let some : 0 < c .bundle .count = omega arith in
-          let low : last 0 l < 16 = let a = last-inside (c .bundle .count) 0 l some inside in omega arith in
-          rw (q, lt-ltb (last 0 l) 16 low) (root-judged s c e t l some inside (omega arith) r)
+          rw q (root-judged s c e t l (omega arith) inside (omega arith) r)
 
   pub qualifies-content : (p : List ℕ) (r : ℕ) → Simple (placesIn content) p → QualifiesBy rootsRead p r → QualifiesBy (rootsIn content) p r
   qualifies-content p r h x = by-test (ltb r (length (content .roots))) refl

@@ -14,7 +14,7 @@ module _ {g : Places} {w v : Roots}
     qualifies-from : (q : List ℕ) → Simple g q → Qualifies v q → Qualifies w q
     qualifies-from q s x = (x .0, from q (x .0) s (x .1))
 
-    settles-agree : (k : ℕ) (o : Outcome) → Settles g w k o → Settles g v k o
+    pub settles-agree : (k : ℕ) (o : Outcome) → Settles g w k o → Settles g v k o
     settles-agree k (accepted p r s) a =
         record {
           simple = a .simple;

@@ -1,148 +1,144 @@
--- Where the search's loop begins, goes on and ends. Assumes nothing.
-use mathlib.Core.List.{List, [], _∷_, _++_, List·Memᴰ·not-nil}
-use mathlib.Core.Path.{_≡_, refl, sym, ap, _∙_}
-use Prim.Native.Nat.{ℕ, suc, _+_, _-_, _*_, _≤_, _<_, zero-le}
+-- How a walk ends: from any stack, and what that settles where it began with the leaf alone. Assumes nothing.
+use mathlib.Core.List.{List, [], _∷_, head-eq-of-cons-eq, List·Memᴰ·not-nil, List·Memᴰ·append-cases, List·Memᴰ·eq-of-singleton}
+use mathlib.Core.Logic.{⊎-elim}
+use mathlib.Core.Path.{_≡_, refl, ap, _∙_}
+use Prim.Native.Nat.{ℕ, suc, _+_, _≤_, _<_, zero-le}
 use native.Mathlib.Numerals.{add-one}
 use native.Mathlib.Omega.{arith}
-use lib.ListN.{length, take, drop, replicate}
-use lib.Seq.{paste, take-at, drop-at, drop-drop, length-take-le, take-all}
+use lib.ListN.{length, take, set, length-append, length-take}
 use Rattle.order.specs.Paths.{Places}
 use Rattle.order.specs.Slots.{slotsOf}
 use Rattle.order.specs.Waiting.{Waiting}
-use Rattle.order.specs.Walk.{kids, paths}
-use Rattle.order.proofs.Waiting.{waiting-start, waiting-step, waiting-end}
-use Rattle.order.proofs.Tree.{paths-listing}
-use Rattle.steps.specs.declared.Reply.the-variants as reply
-use Rattle.certificates.specs.declared.places.RootPlace.{RootPlace}
-use Rattle.rows.proofs.Places.{Least}
-use Rattle.steps.specs.declared.Answer.{Answer}
-use Rattle.steps.specs.Answer.{pathShown, shown, Paused}
-use Rattle.steps.specs.Parts.{pathOf, Stopped}
-use Rattle.steps.specs.Settles.{Roots, Qualifies, Accepted, accepted, refused, exhausted}
-use Rattle.steps.specs.Slots.{slotOf, flat}
+use Rattle.order.specs.Walk.{pops, top, tops, stack, paths}
 use Rattle.order.proofs.Bound.{after-fits}
-use Rattle.steps.proofs.Stack.{path-slot}
-use Rattle.steps.proofs.Turn.{Lies, Given, Going, Taken}
-use Rattle.steps.proofs.Settled.{barren-more, accepts, refuses, exhausts}
+use Rattle.order.proofs.Stack.{stack-waits}
+use Rattle.order.proofs.Waiting.{waiting-step, waiting-end, stack-taken, stack-after}
+use Rattle.order.proofs.Tree.{paths-listing}
+use Rattle.rows.specs.Rows.{highest}
+use Rattle.steps.specs.declared.Reply.the-variants as reply
+use Rattle.steps.specs.declared.Answer.{Answer}
+use Rattle.steps.specs.Answer.{told, pathShown, Tells, Paused, Searched}
+use Rattle.steps.specs.declared.walk.End.{End}
+use Rattle.steps.specs.declared.walk.Level.{Level}
+use Rattle.steps.specs.Parts.{waiting, Vain, Ends, Stopped}
+use Rattle.steps.specs.Room.{holding}
+use Rattle.steps.specs.Settles.{Roots, QualifiesBy, Qualifies, Outcome, accepted, refused, exhausted, Settles, steps}
+use Rattle.steps.proofs.Levels.{Stands, closed, over-all, met}
+use Rattle.steps.proofs.Settled.{Barren, accepts, refuses, exhausts}
 
--- what is written below w slots leaves the rest
-pub start-rest : (w : ℕ) (room s : List ℕ) → 1 ≤ w → 17 * w ≤ length room → length s ≡ 17 → (take 17 (paste room 0 s 17) ≡ s) × (drop (17 * w) (paste room 0 s 17) ≡ drop (17 * w) room)
-start-rest w room s b l k =
-    let f : length (take 17 s) ≡ 17 = length-take-le 17 s (omega arith) in
-    let up : 17 + (17 * w - 17) ≡ 17 * w = omega arith in
-    let X : List ℕ = take 17 s ++ drop 17 room in (
-      take-at (take 17 s) (drop 17 room) 17 f ∙ take-all 17 s (omega arith),
-      ap (λ (j : ℕ). drop j X) (sym up) ∙ sym (drop-drop (17 * w - 17) 17 X) ∙ ap (drop (17 * w - 17)) (drop-at (take 17 s) (drop 17 room) 17 f)
-          ∙ drop-drop (17 * w - 17) 17 room ∙ ap (λ (j : ℕ). drop j room) up,
-    )
+-- ---- from any stack
 
-pub going-start : (g : Places) (r : Roots) (budget w : ℕ) {room : List ℕ} → Given g w room → take 17 room ≡ slotOf (0 ∷ []) → Going g r budget w room room 0 1
-unfolding flat
-going-start g r budget w v e = record {
-  given = v;
-  st = (0 ∷ []) ∷ [];
-  lies = record { size = refl; held = e; rest = refl; long = refl };
-  waits = waiting-start g (v .some) (paths-listing g (v .some));
-  early = zero-le;
-  time = zero-le;
-  barren = λ q m. absurd (List·Memᴰ·not-nil m);
-}
+pub vain-none : {g : Places} {w : Roots} {st : List (List ℕ)} → Vain g w st 0
+vain-none = record { all = refl; none = λ q m. absurd (List·Memᴰ·not-nil m) }
 
-pub restart : (w : ℕ) {start entry room : List ℕ} {m : ℕ} {st : List (List ℕ)} → drop (17 * w) start ≡ drop (17 * w) entry → length start ≡ length entry
-    → Lies w start room m st → Lies w entry room m st
-restart w d l s = record { size = s .size; held = s .held; rest = s .rest ∙ d; long = s .long ∙ l }
+module _ {g : Places} {w : Roots} {st : List (List ℕ)} {k : ℕ} (U : Vain g w st k) where
+  vain-suc : {p : List ℕ} → top (pops g k st) ≡ p ∷ [] → ¬ Qualifies w p → Vain g w st (suc k)
+  vain-suc {p} e n = record {
+    all = rw e (length-append (tops g k st) (p ∷ []) ∙ omega (arith, U .all));
+    none = λ q m x. ⊎-elim (λ l. U .none q l x) (λ r. let z : q ≡ p = List·Memᴰ·eq-of-singleton r in n (rw z at x)) (List·Memᴰ·append-cases (tops g k st) (rw e at m));
+  }
 
-module _ (g : Places) (r : Roots) (budget w : ℕ) {start room : List ℕ} {k m : ℕ} (G : Going g r budget w start room k m) where
-  fits : {j : ℕ} {ws : List (List ℕ)} → Waiting (paths g) j ws → length ws ≤ w
-  fits q = rw (G .given .need) (after-fits g (G .given .few) (paths g, paths-listing g (G .given .some), q))
+  pub vain-more : {p : List ℕ} → top (pops g k st) ≡ p ∷ [] → ¬ Qualifies w p → Vain g w st (k + 1)
+  vain-more e n = rw add-one (vain-suc e n)
 
-  -- the top slot is in the room
-  pub going-top : 0 < m → 17 * (m - 1) + 17 ≤ length room
-  going-top b = omega (arith, G .lies .size, G .lies .long, G .given .enough, fits (G .waits))
+  module _ {seats ahead : List ℕ} {levels : List Level} {place : List ℕ} {row : ℕ} {here : Level} {d : ℕ} (S : Stands g seats st ahead levels place row here d k) {budget : ℕ} where
+    pub stop-refused : 64 ≤ highest row → d ≡ 0 → k ≤ budget
+        → Stopped g (Ends g w budget st) st (record { reply = reply.Refused k; len = 0; place = place; ahead = set ahead d row; depths = d + 1 })
+    stop-refused none z t = record {
+      outcome = refused k;
+      ends = (t, U, over-all S none z);
+      says = refl;
+      short = zero-le;
+      long = S .lp;
+      shows = refl;
+      few = omega (arith, S .deep);
+      left = closed S;
+    }
 
-  pub going-exhausted : {entry : List ℕ} → 0 < m → budget ≤ k → Lies w entry room m (G .st)
-      → Stopped g r budget w entry room (reply.Exhausted k) (slotOf []) m
-  going-exhausted b h l =
-      let z : budget ≡ k = omega (arith, G .time) in
-      rw z (record {
-        outcome = exhausted k;
-        settled = exhausts g r (paths-listing g (G .given .some)) k (more (G .st) (l .size) (G .waits)) (G .barren);
-        says = refl;
-        shows = refl;
-        stack = G .st;
-        order = (paths g, paths-listing g (G .given .some), G .waits);
-        left = l .size;
-        fits = omega (arith, l .size, fits (G .waits));
-        held = l .held;
-        rest = l .rest;
-      })
+    pub stop-exhausted : {i : ℕ} → i ≡ highest row → i < 64 → k ≤ budget → budget ≤ k
+        → Stopped g (Ends g w budget st) st (record { reply = reply.Exhausted k; len = 0; place = place; ahead = set ahead d row; depths = d + 1 })
+    stop-exhausted e s t u = record {
+      outcome = exhausted k;
+      ends = (omega arith, U, (_, met S e s));
+      says = refl;
+      short = zero-le;
+      long = S .lp;
+      shows = refl;
+      few = omega (arith, S .deep);
+      left = closed S;
+    }
+
+  -- p was taken in the step before
+  pub stop-accepted : {seats ahead : List ℕ} {levels : List Level} {place : List ℕ} {row : ℕ} {here : Level} {d : ℕ} → Stands g seats st ahead levels place row here d (k + 1)
+      → {p : List ℕ} → top (pops g k st) ≡ p ∷ [] → {budget : ℕ} → k < budget → {r : ℕ} → QualifiesBy w p r × ((i : ℕ) → QualifiesBy w p i → r ≤ i)
+      → {len : ℕ} → len ≤ 16 → take len place ≡ p
+      → Stopped g (Ends g w budget st) st (record { reply = reply.Accepted (record { 0 = r }) (k + 1); len = len; place = place; ahead = set ahead d row; depths = d + 1 })
+  stop-accepted S {p} e b {r} (q, low) short shows = record {
+    outcome = accepted p r (k + 1);
+    ends = (k, add-one k, omega arith, U, e, q, low);
+    says = refl;
+    short = short;
+    long = S .lp;
+    shows = shows;
+    few = omega (arith, S .deep);
+    left = closed S;
+  }
+
+-- what the walk's loop keeps
+pub record Going (g : Places) (w : Roots) (seats : List ℕ) (budget : ℕ) (st : List (List ℕ)) (ahead : List ℕ) (levels : List Level) (place : List ℕ) (row : ℕ) (here : Level) (d k : ℕ) : Type 0 where
+  pub stands : Stands g seats st ahead levels place row here d k
+  pub vain : Vain g w st k
+  pub time : k ≤ budget
+
+-- ---- from the leaf alone
+
+module _ (g : Places) (some : 0 < g .size) (w : Roots) where
+  barren : {k : ℕ} → Vain g w ((0 ∷ []) ∷ []) k → Barren g w (paths-listing g some) k
+  barren {k} v q m = v .none q (rw (stack-taken g some (paths-listing g some) k) m)
+
+  -- the path on top is the next of the listing
+  topped : (k : ℕ) (s : List (List ℕ)) → Waiting (paths g) k s → {p : List ℕ} → top s ≡ p ∷ [] → (q : List (List ℕ)) × Waiting (paths g) k (p ∷ q)
+  topped k [] x e = let z : _≡_ {A = ℕ} 0 1 = ap length e in absurd (omega arith)
+  topped k (q ∷ s) x {p} e = let z : q ≡ p = head-eq-of-cons-eq e in (s, rw z at x)
+
+  pub ends-settles : (k : ℕ) (o : Outcome) → Ends g w k ((0 ∷ []) ∷ []) o → Settles g w k o
+  ends-settles k (accepted p r s) (j, e, c, v, t, q, low) =
+      let (more, at, _) = waiting-step g some (paths-listing g some) j (topped j (stack g j) (stack-waits g some j) t .1) in
+      let b : suc j ≤ k = omega arith in
+      rw (e, ← at) (accepts g w (paths-listing g some) k j r more b (barren v) (rw at q) (rw at low))
+  ends-settles k (refused s) (c, v, z) =
+      let done : length (paths g) ≤ s = waiting-end g some (paths-listing g some) s .0 (rw z at (stack-waits g some s)) in
+      let early : s ≤ length (paths g) = early s v in
+      refuses g w (paths-listing g some) k s (omega arith) c (barren v)
     where
-      more : (st : List (List ℕ)) → m ≡ length st → Waiting (paths g) k st → k < length (paths g)
-      more [] e q = absurd (omega arith)
-      more (p ∷ st) e q = waiting-step g (G .given .some) (paths-listing g (G .given .some)) k q .0
+      early : (s : ℕ) → Vain g w ((0 ∷ []) ∷ []) s → s ≤ length (paths g)
+      early s v = omega (arith, v .all, ap length (stack-taken g some (paths-listing g some) s), length-take s (paths g))
+  ends-settles k (exhausted s) (e, v, (p, t)) =
+      let (more, _, _) = waiting-step g some (paths-listing g some) s (topped s (stack g s) (stack-waits g some s) t .1) in
+      rw (← e) (exhausts g w (paths-listing g some) s more (barren v))
 
-  pub going-refused : {entry : List ℕ} → m ≤ 0 → Lies w entry room m (G .st) → Stopped g r budget w entry room (reply.Refused k) (slotOf []) 0
-  going-refused {entry} b l =
-      let z : m ≡ 0 = omega arith in
-      let s : Stopped g r budget w entry room (reply.Refused k) (slotOf []) m = record {
-        outcome = refused k;
-        settled = refuses g r (paths-listing g (G .given .some)) budget k (all (G .st) (l .size) (G .waits)) (G .time) (G .barren);
-        says = refl;
-        shows = refl;
-        stack = G .st;
-        order = (paths g, paths-listing g (G .given .some), G .waits);
-        left = l .size;
-        fits = omega (arith, l .size, fits (G .waits));
-        held = l .held;
-        rest = l .rest;
-      } in
-      rw z at s
-    where
-      all : (st : List (List ℕ)) → m ≡ length st → Waiting (paths g) k st → k ≡ length (paths g)
-      all [] e q = omega (arith, G .early, waiting-end g (G .given .some) (paths-listing g (G .given .some)) k .0 q)
-      all (p ∷ st) e q = absurd (omega arith)
+-- ---- what is answered, and what is left in the room
 
-  module _ {s : List ℕ} (t : Taken g w room k m (G .st) s) (h : k < budget) {after : List ℕ} {m′ : ℕ} where
-    pub going-accepted : {entry : List ℕ} {root : RootPlace} → Least (r .good (pathOf s)) 0 (r .count) (root .0) × (root .0 < r .count)
-        → Lies w entry after m′ (kids g (pathOf s) ++ t .under) → Stopped g r budget w entry after (reply.Accepted root (k + 1)) s m′
-    going-accepted {entry} {root} (j, c) l =
-        let a : Accepted g r budget (pathOf s) (root .0) (suc k) = rw (t .next) at (accepts g r (paths-listing g (G .given .some)) budget k (root .0) (t .more) h (G .barren) (rw (t .next) j) c) in
-        rw add-one (record {
-          outcome = accepted (pathOf s) (root .0) (suc k);
-          settled = a;
-          says = refl;
-          shows = t .whole;
-          stack = kids g (pathOf s) ++ t .under;
-          order = (paths g, paths-listing g (G .given .some), t .waits);
-          left = l .size;
-          fits = omega (arith, l .size, fits (t .waits));
-          held = l .held;
-          rest = l .rest;
-        })
+module _ {g : Places} (some : 0 < g .size) (few : g .size ≤ 16) {w : Roots} {k : ℕ} {e : End} (S : Stopped g (Settles g w k) ((0 ∷ []) ∷ []) e)
+  where
+    pub stopped-fits : length (waiting (g .size) (e .ahead) (e .place) (e .depths)) ≤ slotsOf (g .size)
+    stopped-fits = rw (S .left) (after-fits g few (stack-after g some (steps (S .outcome))))
 
-    pub going-on : ¬ Qualifies r (pathOf s) → Lies w start after m′ (kids g (pathOf s) ++ t .under) → Going g r budget w start after (k + 1) m′
-    going-on n l = rw add-one (record {
-      given = G .given;
-      st = kids g (pathOf s) ++ t .under;
-      lies = l;
-      waits = t .waits;
-      early = t .more;
-      time = h;
-      barren = barren-more g r (paths-listing g (G .given .some)) k (t .more) (G .barren) (rw (t .next) n);
-    })
+    module _ {a : Answer} (replies : a .reply ≡ e .reply) (shows : a .path ≡ pathShown (take (e .len) (e .place))) where
+      tells : Tells g w k a (S .outcome)
+      tells = record { settled = S .ends; says = ap told replies ∙ S .says; shows = shows ∙ ap pathShown (S .shows) }
 
--- what stands above the waiting paths is cleared, and the path is handed out
-pub stopped-paused : {g : Places} {r : Roots} {budget : ℕ} {before mid after slot : List ℕ} {a : Answer} {m w : ℕ}
-    → Stopped g r budget w before mid (a .reply) slot m → w ≡ slotsOf (g .size)
-    → after ≡ take (17 * m) mid ++ (replicate (17 * w - 17 * m) 0 ++ drop (17 * w) mid) → a .path ≡ pathShown (pathOf slot)
-    → Paused g r budget before after a
-stopped-paused s e z p = record {
-  outcome = s .outcome;
-  tells = record { settled = s .settled; says = s .says; shows = p ∙ ap pathShown (ap pathOf (s .shows) ∙ path-slot (shown (s .outcome))) };
-  holds = record {
-    waiting = s .stack;
-    order = s .order;
-    fits = omega (arith, s .fits, s .left);
-    room = rw (← e, ← s .left, ← s .held, ← s .rest) z;
-  };
-}
+      pub stopped-paused : {before after : List ℕ} → after ≡ holding (g .size) (waiting (g .size) (e .ahead) (e .place) (e .depths)) before → Paused g w k before after a
+      stopped-paused q = record {
+        outcome = S .outcome;
+        tells = tells;
+        holds = record {
+          waiting = waiting (g .size) (e .ahead) (e .place) (e .depths);
+          order = rw (S .left) (stack-after g some (steps (S .outcome)));
+          fits = stopped-fits;
+          room = q;
+        };
+      }
+
+      pub stopped-searched : {before after : List ℕ} → after ≡ holding (g .size) [] before → Searched g w k before after a
+      stopped-searched q = record { outcome = S .outcome; tells = tells; clear = q }

@@ -16,7 +16,7 @@ use Rattle.order.proofs.Tree.{paths-listing}
 use Rattle.rows.specs.Rows.{seek}
 use Rattle.rows.proofs.Places.{seek-least}
 use Rattle.steps.specs.Settles.{Roots, Qualifies, Outcome, accepted, refused, exhausted, Settles}
-use Rattle.steps.proofs.Least.{least-none}
+use Rattle.steps.proofs.Least.{least-lowest, least-none}
 use Rattle.steps.proofs.Settled.{Barren, barren-more, accepts, refuses, exhausts}
 
 -- the paths are what is left after k, with `fuel` steps left
@@ -40,7 +40,9 @@ module _ (g : Places) (w : Roots) {ps : List (List ℕ)} (l : Listing g ps) wher
           → (¬ Qualifies w (getD ps k []) → Settles g w (suc k + fuel) (read w left fuel (suc k)))
           → Settles g w (k + suc fuel) (cond t (accepted p (seek (w .good p) 0 (w .count)) (suc k)) (read w left fuel (suc k)))
       go true y m n ih =
-          rw n at (accepts g w l (k + suc fuel) k (seek (w .good p) 0 (w .count)) m (omega arith) b (rw n (seek-least (w .good p) 0 (w .count))) (ltb-true _ _ y))
+          let f = seek-least (w .good p) 0 (w .count) in
+          let h : seek (w .good p) 0 (w .count) < w .count = ltb-true _ _ y in
+          rw n at (accepts g w l (k + suc fuel) k (seek (w .good p) 0 (w .count)) m (omega arith) b (rw n (h, f .passes (omega arith))) (rw n (least-lowest w f)))
       go false y m n ih = rw (add-suc, ← suc-add) (ih (rw n (least-none w (seek-least (w .good p) 0 (w .count)) (ltb-false _ _ y))))
 
 abbrev pub found : Places → Roots → ℕ → Outcome

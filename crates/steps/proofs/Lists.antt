@@ -5,23 +5,10 @@ use Prim.Native.Nat.{ℕ, zero, suc, _+_, _-_, _≤_, _<_, zero-le}
 use native.Mathlib.Nat.{le-of-suc-le-suc, not-suc-le-zero, sub-self, sub-zero, suc-sub-suc, zero-add, suc-add}
 use native.Mathlib.Numerals.{add-one}
 use native.Mathlib.Omega.{arith}
-use lib.ListN.{length, take, drop, getD, set, replicate, length-drop, length-append, length-set}
-use lib.Seq.{paste, paste-suc, getD-drop, length-take-le, take-all, set-append-left}
+use lib.ListN.{length, take, drop, getD, set, replicate, length-append, length-set}
+use lib.Seq.{paste, paste-suc, length-take-le, take-all, set-append-left}
 
--- a turn's store takes the copy of i elements to the copy of one more
-copy-suc : (src dst : List ℕ) (i : ℕ) → i < length src → i < length dst → set (take i src ++ drop i dst) i (getD src i 0) ≡ take (suc i) src ++ drop (suc i) dst
-copy-suc [] dst i h k = absurd (not-suc-le-zero h)
-copy-suc (x ∷ xs) [] i h k = absurd (not-suc-le-zero k)
-copy-suc (x ∷ xs) (y ∷ ys) zero h k = refl
-copy-suc (x ∷ xs) (y ∷ ys) (suc i) h k = ap (λ (l : List ℕ). x ∷ l) (copy-suc xs ys i (le-of-suc-le-suc h) (le-of-suc-le-suc k))
-
--- the same, of a list that is read from index at on
-pub copy-more : (room dst : List ℕ) (at i : ℕ) → at + i < length room → i < length dst
-    → set (take i (drop at room) ++ drop i dst) i (getD room (at + i) 0) ≡ take (i + 1) (drop at room) ++ drop (i + 1) dst
-copy-more room dst at i h k =
-    rw (add-one, ← getD-drop at room i 0) (copy-suc (drop at room) dst i (simp length-drop (omega arith)) k)
-
--- the same, of a list that is written from index at on
+-- a turn's store into a list that is written from index at on
 pub paste-more : (d : List ℕ) (at : ℕ) (s : List ℕ) (j : ℕ) → at + j < length d → j < length s
     → set (paste d at s j) (at + j) (getD s j 0) ≡ paste d at s (j + 1)
 paste-more d at s j h k = rw add-one (paste-suc d at s j 0 h k)

@@ -11,9 +11,7 @@ use Rattle.order.specs.Paths.{Places, Listing}
 use Rattle.order.proofs.Lists.{mem-at, lists-before}
 use Rattle.order.proofs.Order.{irrefl, trans}
 use Rattle.order.proofs.Rank.{rank-at, rank-is}
-use Rattle.rows.proofs.Places.{Least}
-use Rattle.steps.specs.Settles.{Roots, Qualifies, Accepted, Refused, Exhausted}
-use Rattle.steps.proofs.Least.{least-lowest}
+use Rattle.steps.specs.Settles.{Roots, QualifiesBy, Qualifies, Accepted, Refused, Exhausted}
 
 module _ (g : Places) (w : Roots) {ps : List (List ℕ)} (l : Listing g ps) where
   -- none of the first k qualifies
@@ -24,12 +22,12 @@ module _ (g : Places) (w : Roots) {ps : List (List ℕ)} (l : Listing g ps) wher
   barren-more k h b n q m x =
       ⊎-elim (λ a. b q a x) (λ a. let e : q ≡ getD ps k [] = List·Memᴰ·eq-of-singleton a in n (rw e at x)) (List·Memᴰ·append-cases (take k ps) (rw (take-suc ps k [] h) at m))
 
-  pub accepts : (budget k r : ℕ) → k < length ps → suc k ≤ budget → Barren k → Least (w .good (getD ps k [])) 0 (w .count) r → r < w .count
+  pub accepts : (budget k r : ℕ) → k < length ps → suc k ≤ budget → Barren k → QualifiesBy w (getD ps k []) r → ((i : ℕ) → QualifiesBy w (getD ps k []) i → r ≤ i)
       → Accepted g w budget (getD ps k []) r (suc k)
-  accepts budget k r h c b f t = record {
+  accepts budget k r h c b q low = record {
     simple = l .only (getD ps k []) (mem-at ps k [] h);
-    qualifies = (t, f .passes (omega arith));
-    lowest = least-lowest w f;
+    qualifies = q;
+    lowest = low;
     first = λ q s e. b q (lists-before irrefl trans (take k ps) (drop (suc k) ps) (rw (split-at ps k []) at l) .all q (s, e));
     rank = rank-at g l k h;
     covered = c;

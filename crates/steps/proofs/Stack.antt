@@ -4,13 +4,10 @@ use mathlib.Core.List.{List, [], _∷_, _++_, append-assoc, append-nil, List·Me
 use Prim.Native.Nat.{ℕ, suc, _+_, _-_, _*_, _≤_, _<_}
 use native.Mathlib.Numerals.{add-one}
 use native.Mathlib.Omega.{arith}
-use lib.ListN.{length, take, drop, getD, set, replicate, length-replicate, length-append, List·getD-append}
+use lib.ListN.{length, take, drop, getD, set, replicate, length-replicate, length-append}
 use lib.Seq.{paste, take-append-seam, set-append-seam, append-snoc, take-at, drop-at, take-all, drop-drop, length-take-le}
 use Rattle.order.specs.Listing.{_among_}
-use Rattle.order.specs.Paths.{Places, Simple}
-use Rattle.order.proofs.Lists.{mem-at}
-use Rattle.order.proofs.Simple.{simple-length}
-use Rattle.steps.specs.Parts.{pathOf, HoldsPath}
+use Rattle.steps.specs.Parts.{pathOf}
 use Rattle.steps.specs.Slots.{padded, slotOf, flat}
 
 -- ---- slots
@@ -26,11 +23,7 @@ pub path-slot : (p : List ℕ) → pathOf (slotOf p) ≡ p
 unfolding slotOf padded pathOf
 path-slot p = take-append-seam p (replicate (16 - length p) 0)
 
--- a slot of some path is the slot of the path that it holds
-pub slot-whole : (s p : List ℕ) → s ≡ slotOf p → s ≡ slotOf (pathOf s)
-slot-whole s p e = e ∙ ap slotOf (sym (ap pathOf e ∙ path-slot p))
-
-slot-child : (p : List ℕ) (i : ℕ) → length p < 16 → set (set (slotOf p) (length p + 1) i) 0 (length p + 1) ≡ slotOf (p ++ (i ∷ []))
+pub slot-child : (p : List ℕ) (i : ℕ) → length p < 16 → set (set (slotOf p) (length p + 1) i) 0 (length p + 1) ≡ slotOf (p ++ (i ∷ []))
 unfolding slotOf padded
 slot-child p i h =
     let e : 16 - length p ≡ suc (16 - (length p + 1)) = omega arith in
@@ -50,14 +43,6 @@ pub slot-next : (s : List ℕ) (i : ℕ) → s ≡ slotOf (pathOf s) → length 
     → set (set s (getD s 0 0 + 1) i) 0 (getD s 0 0 + 1) ≡ slotOf (pathOf s ++ (i ∷ []))
 slot-next s i e h =
     rw (slot-len s e) (ap (λ (l : List ℕ). set (set l (length (pathOf s) + 1) i) 0 (length (pathOf s) + 1)) e ∙ slot-child (pathOf s) i h)
-
-pub simple-slot : (g : Places) {p : List ℕ} → g .size ≤ 16 → Simple g p → HoldsPath (slotOf p)
-unfolding slotOf padded
-simple-slot g {p} h s = record {
-  some = rw (s .start .1) (omega arith);
-  most = omega (arith, simple-length g s);
-  low = λ j b. rw (add-one, List·getD-append p (replicate (16 - length p) 0) 0 j b) (omega (arith, s .inside (getD p j 0) (mem-at p j 0 b)));
-}
 
 -- ---- the slots of a list of paths
 

@@ -1,6 +1,6 @@
 -- What the public functions answer. Assumes nothing.
-use mathlib.Core.Bool.{Bool, false, cond, _&&_}
-use mathlib.Core.List.{List, [], _∷_, map}
+use mathlib.Core.Bool.{Bool, cond}
+use mathlib.Core.List.{List, [], map}
 use mathlib.Core.Path.{_≡_}
 use Prim.Native.Nat.{ℕ, _<_}
 use lib.Dec.{ltb}
@@ -8,8 +8,8 @@ use lib.ListN.{length, getD}
 use Rattle.fields.specs.Answers.{number}
 use Rattle.certificates.specs.declared.places.BundlePlace.{BundlePlace}
 use Rattle.issuing.specs.declared.Issuing.{Issuing}
-use Rattle.order.specs.Paths.{Places, last}
-use Rattle.policy.specs.Judging.{stands, allStand}
+use Rattle.order.specs.Paths.{Places}
+use Rattle.policy.specs.Judging.{qualifiesBy}
 use Rattle.policy.specs.declared.judged.Judged.{Judged}
 use Rattle.rows.specs.Rows.{has}
 use Rattle.steps.specs.Slots.{padded}
@@ -29,22 +29,13 @@ issuers rows i j = has i (getD rows j 0)
 abbrev pub placesBy : List ℕ → ℕ → Places
 placesBy rows n = record { size = n; issued = issuers rows }
 
--- a path qualifies by root r: each place after the first may stand where it does, r issued the last place and may stand above
-unfoldable pub qualifiesBy : List ℕ → ℕ → List ℕ → ℕ → List ℕ → List ℕ → ℕ → Bool
-qualifiesBy issued between limits above tops [] r = false
-qualifiesBy issued between limits above tops (p ∷ l) r =
-    (ltb (last p l) 16 && allStand between limits 0 l) && (has r (getD issued (last p l) 0) && stands above tops (length l) r)
-
--- 32 roots, at most
-abbrev pub rootsBy : List ℕ → ℕ → List ℕ → ℕ → List ℕ → Roots
-rootsBy issued between limits above tops = record { count = 32; good = qualifiesBy issued between limits above tops }
-
--- the same of the rows and of what was judged, as they are handed in
+-- the same of the rows, as they are handed in
 abbrev pub placesOf : Issuing → ℕ → Places
 placesOf i n = placesBy (i .bundle) n
 
+-- 32 roots, at most; a path qualifies by one as its certificates were judged
 abbrev pub rootsOf : Issuing → Judged → Roots
-rootsOf i j = rootsBy (i .roots) (j .between .sound) (j .between .limits) (j .above .sound) (j .above .limits)
+rootsOf i j = record { count = 32; good = qualifiesBy (i .roots) j }
 
 -- ---- what is said
 

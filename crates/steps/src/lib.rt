@@ -1,10 +1,13 @@
 // The search over what is at hand: who issued whom as rows, and what was judged of each certificate. It finds the first path that
-// reaches a root under the policy; the waiting paths lie in lent room. The card file is left to others.
+// reaches a root under the policy; what then waits is left in lent room. The card file is left to others.
+mod lay;
 mod room;
 mod run;
-mod step;
+mod walk;
 
+use crate::lay::leave;
 use crate::room::zero_bytes;
+use crate::run::answer_of;
 use crate::run::run;
 use card::Bundle;
 use card::BundlePlace;
@@ -73,7 +76,11 @@ pub fn paused(room: &mut [u8], n: u8, issuing: Issuing, judged: Judged, budget: 
         return Answer::stopped(Reply::EmptyChain);
     }
     if has_room(n, room.len()) {
-        return run(room, n, issuing, judged, budget);
+        let end = run(n, issuing, judged, budget);
+        let ahead = end.ahead;
+        let place = end.place;
+        leave(room, n, ahead, place, end.depths);
+        return answer_of(end);
     }
     Answer::stopped(Reply::NoRoom)
 }
@@ -86,9 +93,9 @@ pub fn search(room: &mut [u8], n: u8, issuing: Issuing, judged: Judged, budget: 
         return Answer::stopped(Reply::EmptyChain);
     }
     if has_room(n, room.len()) {
-        let answer = run(room, n, issuing, judged, budget);
+        let end = run(n, issuing, judged, budget);
         zero_bytes(room, 0, Slot::BYTES * (slots(n) as usize));
-        return answer;
+        return answer_of(end);
     }
     Answer::stopped(Reply::NoRoom)
 }

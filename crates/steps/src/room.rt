@@ -1,36 +1,16 @@
 // The lent room: bytes in slots, each a length and then so many places.
-use crate::Path;
 use card::Bundle;
-use card::BundlePlace;
 ghost use mathlib.Core.List.{_++_};
 ghost use mathlib.Core.Path.{_≡_};
 ghost use Prim.Native.Nat.{_+_, _-_, _*_, _≤_};
 ghost use lib.ListN.{length, take, drop, replicate};
 ghost use lib.Seq.{paste};
-ghost use Rattle.steps.specs.Answer.{pathShown};
-ghost use Rattle.steps.specs.Parts.{pathOf};
-ghost use Rattle.steps.specs.Slots.{slotOf};
 
 // A slot: a length, then as many places as a path can have.
 pub struct Slot {}
 
 impl Slot {
     pub const BYTES: usize = Bundle::MOST + 1;
-}
-
-// The bytes of slot t.
-pub(crate) fn read_slot(room: &[u8], t: usize) -> [u8; Slot::BYTES]
-    requires { ⌜ 17 * t + 17 ≤ length (now room) ⌝ }
-    ensures { λ r. ⌜ r ≡ take 17 (drop (17 * t) (now (room .entry))) ⌝ }
-{
-    let at = Slot::BYTES * t;
-    let mut s = [0u8; Slot::BYTES];
-    let mut j = 0;
-    while j < Slot::BYTES {
-        s[j] = room[at + j];
-        j += 1;
-    }
-    s
 }
 
 // Puts s in slot t.
@@ -55,22 +35,5 @@ pub(crate) fn zero_bytes(room: &mut [u8], a: usize, e: usize)
     while j < e {
         room[j] = 0;
         j += 1;
-    }
-}
-
-// The path that s holds.
-pub(crate) fn path_in(s: [u8; Slot::BYTES]) -> Path
-    requires { ⌜ s ≡ slotOf (pathOf s) ⌝ }
-    ensures { λ r. ⌜ r ≡ pathShown (pathOf s) ⌝ }
-{
-    let mut places = [BundlePlace(0); Bundle::MOST];
-    let mut j = 0;
-    while j < Bundle::MOST {
-        places[j] = BundlePlace(s[j + 1]);
-        j += 1;
-    }
-    Path {
-        length: s[0],
-        places,
     }
 }

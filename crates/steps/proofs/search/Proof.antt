@@ -1,12 +1,13 @@
--- `search` replies as its contract says, and clears the needed slots. Assumes nothing.
-use borrow.Author.Needs.{needs}
+-- `search` replies as its contract says. Assumes nothing.
 use native.Mathlib.Omega.{arith}
 use mathlib.Core.Path.{refl, sym, ap, _∙_}
 use Prim.Native.Nat.{zero-le}
 use lib.ListN.{length}
 use Rattle.steps.specs.Answer.{told}
-use Rattle.steps.proofs.Cleared.{cleared}
+use Rattle.steps.specs.Slots.{flat}
+use Rattle.steps.proofs.Ends.{stopped-searched}
 use Rattle.steps.proofs.Faults.{Clear, clear, fault-empty, fault-room, fault-none, answered-runs, answered-stops}
+use borrow.Author.Needs.{needs}
 use Rattle.steps.proofs.search.Statement.{statement}
 use Rattle.steps.proofs.search.Tie as tie
 
@@ -24,7 +25,7 @@ ready : (c : tie.Then2) → Clear (c .before .before .before .before .args .n) (
 ready c = clear _ _ (c .before .before .if1 .left) (sym (c .before .has-room .ensures) ∙ c .if2 .taken)
 
 run-requires : tie.Need-run-requires
-run-requires c κs = let k = ready (c .before) in (k .some, (k .few, k .room))
+run-requires c κs = let k = ready c in (k .some, k .few)
 
 slots-requires : tie.Need-slots-requires
 slots-requires c κs = search needs
@@ -36,27 +37,26 @@ mul-zero-bytes : tie.Need-mul-zero-bytes
 mul-zero-bytes c = search needs
 
 zero-bytes-requires : tie.Need-zero-bytes-requires
-zero-bytes-requires c κs =
-    let r = c .before .before .before .before in
-    (zero-le, omega (arith, c .slots .ensures, ready (r .before .before) .room, r .run .kept .0))
+zero-bytes-requires c κs = (zero-le, omega (arith, c .slots .ensures, ready (c .before .before .before) .room))
+
+answer-of-requires : tie.Need-answer-of-requires
+answer-of-requires c κs = c .before .before .before .before .before .run .ensures .short
 
 same-length : tie.Need-same-length
 same-length c = search needs
 
 returns-2 : tie.Need-returns-2
-returns-2 c =
-    let s = c .before .before .before in
-    let r = s .before .before .before .before in
-    let h = r .before .before .before in
-    answered-runs (fault-none _ _ (h .before .if1 .left) (sym (h .has-room .ensures) ∙ r .before .before .if2 .taken))
-    (cleared _ (ready (r .before .before) .few) _ _ (r .run .ensures) (rw (s .slots .ensures) at (c .before .before .zero-bytes .ensures)))
+unfolding flat
+returns-2 c = let t = c .before .before .before .before .before .before .before in
+    let r = c .before .before .before .before .before .before .run in
+    answered-runs (fault-none _ _ (t .before .before .if1 .left) (sym (t .before .has-room .ensures) ∙ t .if2 .taken))
+    (stopped-searched (ready t .some) (ready t .few) (r .ensures) (c .answer-of .ensures .0) (c .answer-of .ensures .1) (rw (c .before .before .before .before .slots .ensures) at (c .before .before .before .zero-bytes .ensures)))
 
 stopped-requires-2 : tie.Need-stopped-requires-2
 stopped-requires-2 c κs = search needs
 
 returns-3 : tie.Need-returns-3
-returns-3 c =
-    let h = c .before .before in
+returns-3 c = let h = c .before .before in
     rw (fault-room _ _ (h .before .if1 .left) (sym (h .has-room .ensures) ∙ c .before .if2 .left))
     (answered-stops (omega arith) (ap told (c .stopped2 .ensures .0)) (c .stopped2 .ensures .1) refl)
 
@@ -72,6 +72,7 @@ search-spec =
     cast-zero-bytes
     mul-zero-bytes
     zero-bytes-requires
+    answer-of-requires
     same-length
     returns-2
     stopped-requires-2

@@ -1,52 +1,23 @@
--- `run` replies as the walk does, and clears what stands above the waiting paths. Assumes nothing.
+-- `run` stops where the walk from the leaf alone does, and what that settles by how paths stand is settled by what was judged. Assumes nothing.
+use Rattle.steps.proofs.Judging.{settled}
 use borrow.Author.Needs.{needs}
-use Rattle.steps.specs.Answer.{placesOf, rootsOf}
-use Rattle.steps.proofs.Ends.{stopped-paused}
-use Rattle.steps.proofs.Stack.{slot-whole}
 use Rattle.steps.proofs.run.run.Statement.{statement}
 use Rattle.steps.proofs.run.run.Tie as tie
 
-slots-requires : tie.Need-slots-requires
-slots-requires c κs = search needs
+seats-of-requires : tie.Need-seats-of-requires
+seats-of-requires c κs = search needs
 
-cast-need : tie.Need-cast-need
-cast-need c = search needs
+first-requires : tie.Need-first-requires
+first-requires c κs = search needs
 
 walk-requires : tie.Need-walk-requires
-walk-requires c κs = search needs
-
-mul-zero-bytes : tie.Need-mul-zero-bytes
-mul-zero-bytes c = search needs
-
-mul-zero-bytes-2 : tie.Need-mul-zero-bytes-2
-mul-zero-bytes-2 c = search needs
-
-zero-bytes-requires : tie.Need-zero-bytes-requires
-zero-bytes-requires c κs = search needs
-
-path-in-requires : tie.Need-path-in-requires
-path-in-requires c κs = slot-whole _ _ (c .before .before .before .before .before .before .before .before .walk .ensures .shows)
-
-same-length : tie.Need-same-length
-same-length c = search needs
+walk-requires c κs = let s = c .before .before .before .before .before .before .before .before .before in
+    (s .pre .1, c .before .before .before .first .ensures .0 (s .args .issuing .bundle))
 
 returns : tie.Need-returns
-returns c =
-    let z = c .before .before .before .before in
-    let w = z .before .before .before .before .before in
-    let a = w .before .before .before .before .before .before .before .before .before .before .before .before .args in
-    stopped-paused {g = placesOf (a .issuing) (a .n)} {r = rootsOf (a .issuing) (a .judged)} (w .walk .ensures) (w .before .before .before .before .before .before .slots .ensures) (z .zero-bytes .ensures) (c .path-in .ensures)
+returns c = let s = c .before .before .before .before .before .before .before .before .before .before in
+    settled (s .args .issuing) (s .args .judged) (s .args .n) (s .pre .0) (s .pre .1) _ (c .before .before .before .before .before .before .before .seats-of .ensures)
+    (rw (c .before .before .before .before .first .ensures .1) at (c .walk .ensures))
 
 pub run-spec : {M : Type 1} → statement M
-run-spec =
-    tie.close
-    (tie.spec
-    slots-requires
-    cast-need
-    walk-requires
-    mul-zero-bytes
-    mul-zero-bytes-2
-    zero-bytes-requires
-    path-in-requires
-    same-length
-    returns)
+run-spec = tie.close (tie.spec seats-of-requires first-requires walk-requires returns)

@@ -1,0 +1,281 @@
+-- `walk` stops as its contract says, from any state. The invariant: the state is where the steps so far lead from the stack that it began
+-- with, and none of the paths that they took qualifies. Assumes nothing.
+use borrow.Author.Needs.{needs}
+use native.Mathlib.Omega.{arith}
+use Prim.Native.Nat.{ℕ, _+_, _*_, _-_, _≤_, _<_, zero-le}
+use mathlib.Core.Path.{_≡_, refl, ap, _∙_}
+use mathlib.Core.List.{List, [], _∷_}
+use mathlib.Core.Logic.{⊎-elim}
+use lib.ListN.{take, set}
+use Rattle.order.specs.Paths.{Places}
+use Rattle.order.specs.Walk.{snoc, pops, top}
+use Rattle.policy.specs.Standing.{rootsOver}
+use Rattle.rows.specs.Rows.{joined, left}
+use Rattle.steps.specs.Answer.{placesBy}
+use Rattle.steps.specs.Parts.{rootsBy, waiting, stackOf}
+use Rattle.steps.proofs.Ends.{Going, vain-none, vain-more, stop-refused, stop-exhausted, stop-accepted}
+use Rattle.steps.proofs.Levels.{Stands, stands-start, climbed, place-low, met, path-is, roots-are, stayed, sank}
+use Rattle.steps.proofs.Least.{row-found, row-none}
+use Rattle.steps.proofs.walk.walk.Statement.{statement}
+use Rattle.steps.proofs.walk.walk.Tie as tie
+
+abbrev Inv-loop : tie.InvT-loop
+Inv-loop n rows roots seats budget ahead₀ levels₀ place₀ d₀ row₀ here₀ steps₀ ahead levels place d row here steps =
+    Going (placesBy rows n) (rootsBy roots seats) seats budget (waiting n ahead₀ place₀ (d₀ + 1)) ahead levels place row here d steps
+
+abbrev μ-loop : tie.MeasureT-loop
+μ-loop n rows roots seats budget ahead₀ levels₀ place₀ d₀ row₀ here₀ steps₀ ahead levels place d row here steps =
+    2 * (budget - steps) + d
+
+mul-row : tie.Need-mul-row Inv-loop μ-loop
+mul-row c = search needs
+
+array-read-row : tie.Need-array-read-row Inv-loop μ-loop
+array-read-row c = search needs
+
+mul-here : tie.Need-mul-here Inv-loop μ-loop
+mul-here c = search needs
+
+array-copy-out-here : tie.Need-array-copy-out-here Inv-loop μ-loop
+array-copy-out-here c = search needs
+
+loop-holds : tie.Need-loop-holds Inv-loop μ-loop
+loop-holds c =
+    let s = c .before .before .before .before in
+    record { stands = stands-start (s .pre .0) (search needs) (search needs) (s .pre .1); vain = vain-none; time = zero-le }
+
+highest-requires : tie.Need-highest-requires Inv-loop μ-loop
+highest-requires c κs = search needs
+
+stopped-requires : tie.Need-stopped-requires Inv-loop μ-loop
+stopped-requires c κs = search needs
+
+returns : tie.Need-returns Inv-loop μ-loop
+returns c =
+    let l = c .before .before .before .before .loop in
+    rw (c .stopped .ensures)
+    (stop-refused (l .inv .vain) (l .inv .stands) (rw (← c .before .before .before .highest .ensures) (c .before .before .if1 .taken)) (c .before .if2 .taken) (l .inv .time))
+
+sub-d : tie.Need-sub-d Inv-loop μ-loop
+sub-d c = search needs
+
+mul-row-2 : tie.Need-mul-row-2 Inv-loop μ-loop
+mul-row-2 c = search needs
+
+array-read-row-2 : tie.Need-array-read-row-2 Inv-loop μ-loop
+array-read-row-2 c = search needs
+
+mul-here-2 : tie.Need-mul-here-2 Inv-loop μ-loop
+mul-here-2 c = search needs
+
+array-copy-out-here-2 : tie.Need-array-copy-out-here-2 Inv-loop μ-loop
+array-copy-out-here-2 c = search needs
+
+loop-less : tie.Need-loop-less Inv-loop μ-loop
+loop-less c = search needs
+
+loop-again : tie.Need-loop-again Inv-loop μ-loop
+loop-again c =
+    let l = c .before .before .before .before .loop in
+    record {
+      stands = climbed (l .inv .stands) (rw (← c .before .before .before .highest .ensures) (c .before .before .if1 .taken)) (omega (arith, c .before .if2 .left));
+      vain = l .inv .vain;
+      time = l .inv .time;
+    }
+
+stopped-requires-2 : tie.Need-stopped-requires-2 Inv-loop μ-loop
+stopped-requires-2 c κs = search needs
+
+returns-2 : tie.Need-returns-2 Inv-loop μ-loop
+returns-2 c =
+    let l = c .before .before .before .before .loop in
+    rw (c .stopped2 .ensures)
+    (stop-exhausted (l .inv .vain) (l .inv .stands) (c .before .before .before .highest .ensures) (omega (arith, c .before .before .if1 .left)) (l .inv .time) (c .before .if3 .taken))
+
+add-steps : tie.Need-add-steps Inv-loop μ-loop
+add-steps c = search needs
+
+array-write-place : tie.Need-array-write-place Inv-loop μ-loop
+array-write-place c = search needs
+
+with-requires : tie.Need-with-requires Inv-loop μ-loop
+with-requires c κs = search needs
+
+without-requires : tie.Need-without-requires Inv-loop μ-loop
+without-requires c κs = search needs
+
+cast-children : tie.Need-cast-children Inv-loop μ-loop
+cast-children c = search needs
+
+mul-children : tie.Need-mul-children Inv-loop μ-loop
+mul-children c = search needs
+
+-- the place that is taken is below 16
+low : (c : tie.After-without Inv-loop μ-loop) → c .before .before .before .before .highest .result < 16
+low c =
+    let h = c .before .before .before .before in
+    let S = h .before .loop .inv .stands in
+    omega (arith, place-low S (h .highest .ensures) (omega (arith, c .before .before .before .if1 .left)), S .few)
+
+element-copy-out-children : tie.Need-element-copy-out-children Inv-loop μ-loop
+element-copy-out-children c = low c
+
+children-requires : tie.Need-children-requires Inv-loop μ-loop
+children-requires c κs = search needs
+
+over-requires : tie.Need-over-requires Inv-loop μ-loop
+over-requires c κs = search needs
+
+cast-shared : tie.Need-cast-shared Inv-loop μ-loop
+cast-shared c = search needs
+
+mul-shared : tie.Need-mul-shared Inv-loop μ-loop
+mul-shared c = search needs
+
+element-copy-out-shared : tie.Need-element-copy-out-shared Inv-loop μ-loop
+element-copy-out-shared c = low (c .before .before .before .before)
+
+shared-requires : tie.Need-shared-requires Inv-loop μ-loop
+shared-requires c κs = search needs
+
+add-len : tie.Need-add-len Inv-loop μ-loop
+add-len c = search needs
+
+mul-ahead : tie.Need-mul-ahead Inv-loop μ-loop
+mul-ahead c = search needs
+
+array-write-ahead : tie.Need-array-write-ahead Inv-loop μ-loop
+array-write-ahead c = search needs
+
+mul-levels : tie.Need-mul-levels Inv-loop μ-loop
+mul-levels c = search needs
+
+array-set-from-levels : tie.Need-array-set-from-levels Inv-loop μ-loop
+array-set-from-levels c = search needs
+
+onward-requires : tie.Need-onward-requires Inv-loop μ-loop
+onward-requires c κs = search needs
+
+-- when the path's roots are known, what came before: the function's beginning, the choice of the place, the path by it
+abbrev entry : tie.After-shared Inv-loop μ-loop → tie.Start Inv-loop μ-loop
+entry t = t .before .before .before .before .before .before .before .before .before .before .before .before .before .before .before .before
+
+abbrev chosen : tie.After-shared Inv-loop μ-loop → tie.After-highest Inv-loop μ-loop
+chosen t = t .before .before .before .before .before .before .before .before .before .before
+
+abbrev path : tie.After-shared Inv-loop μ-loop → List ℕ
+path t = snoc (take (chosen t .before .loop .d) (chosen t .before .loop .place)) (chosen t .highest .result)
+
+abbrev graph : tie.After-shared Inv-loop μ-loop → Places
+graph t = placesBy (entry t .args .rows .now) (entry t .args .n)
+
+abbrev began : tie.After-shared Inv-loop μ-loop → List (List ℕ)
+began t = stackOf (entry t .args .n) (entry t .args .from)
+
+some : (t : tie.After-shared Inv-loop μ-loop) → chosen t .highest .result < 64
+some t = omega (arith, t .before .before .before .before .before .before .before .before .before .if1 .left)
+
+time : (t : tie.After-shared Inv-loop μ-loop) → chosen t .before .loop .steps < entry t .args .budget
+time t = omega (arith, t .before .before .before .before .before .before .before .before .if3 .left)
+
+-- the row without the place
+fewer : (t : tie.After-shared Inv-loop μ-loop) → t .before .before .before .before .before .before .without .result ≡ left (chosen t .before .loop .row) (joined 0 (chosen t .highest .result))
+fewer t = t .before .before .before .before .before .before .without .ensures ∙ ap (left (chosen t .before .loop .row)) (t .before .before .before .before .before .before .before .with .ensures)
+
+-- the path's roots as a row
+over : (t : tie.After-shared Inv-loop μ-loop) → t .shared .result ≡ rootsOver (entry t .args .roots .now) (entry t .args .seats .now) (path t)
+over t = roots-are (chosen t .before .loop .inv .stands) (chosen t .highest .ensures) (some t) _ (t .before .before .over .ensures) (t .shared .ensures)
+
+-- it was on top
+on-top : (t : tie.After-shared Inv-loop μ-loop) → top (pops (graph t) (chosen t .before .loop .steps) (began t)) ≡ path t ∷ []
+on-top t = met (chosen t .before .loop .inv .stands) (chosen t .highest .ensures) (some t)
+
+-- the state after the step, and how deep it is
+moved : (c : tie.Joined4 Inv-loop μ-loop) → let t = c .before in
+    Stands (graph t) (entry t .args .seats .now) (began t) (c .if4 .ahead) (c .if4 .levels)
+    (set (chosen t .before .loop .place) (chosen t .before .loop .d) (chosen t .highest .result)) (c .if4 .row) (c .if4 .here) (c .if4 .d)
+    (chosen t .before .loop .steps + 1)
+    × (c .if4 .d ≤ chosen t .before .loop .d + 1)
+moved c =
+    let t = c .before in
+    let S = chosen t .before .loop .inv .stands in
+    let next = t .before .before .before .before .children .ensures in
+    ⊎-elim
+    (λ w. (rw (w .2, w .3, w .4, w .5, w .6) (sank S (chosen t .highest .ensures) (some t) _ (λ j. refl) next (fewer t) (w .1 .ensures) (omega (arith, w .0 .taken)) (search needs)), omega (arith, w .4)))
+    (λ w. (rw (w .1, w .2, w .3, w .4, w .5) (stayed S (chosen t .highest .ensures) (some t) _ (λ j. refl) next (fewer t) (w .0 .left)), omega (arith, w .3)))
+    (c .if4 .came)
+
+lowest-requires : tie.Need-lowest-requires Inv-loop μ-loop
+lowest-requires c κs = search needs
+
+stopped-requires-3 : tie.Need-stopped-requires-3 Inv-loop μ-loop
+stopped-requires-3 c κs = moved (c .before .before) .0 .deep
+
+returns-3 : tie.Need-returns-3 Inv-loop μ-loop
+returns-3 c =
+    let j = c .before .before .before in
+    let t = j .before in
+    let l = chosen t .before .loop in
+    let r = row-found _ _ _ (over t) (omega (arith, c .before .before .if5 .taken)) (search needs) in
+    rw (c .stopped3 .ensures, c .before .lowest .ensures)
+    (stop-accepted (l .inv .vain) (moved j .0) (on-top t) (time t) r (omega (arith, l .inv .stands .deep)) (path-is (l .inv .stands) (chosen t .highest .ensures) (some t)))
+
+loop-less-2 : tie.Need-loop-less-2 Inv-loop μ-loop
+loop-less-2 c = omega (arith, moved (c .before) .1, time (c .before .before))
+
+loop-again-2 : tie.Need-loop-again-2 Inv-loop μ-loop
+loop-again-2 c =
+    let t = c .before .before in
+    record {
+      stands = moved (c .before) .0;
+      vain = vain-more (chosen t .before .loop .inv .vain) (on-top t) (row-none _ _ _ (over t) (c .if5 .left));
+      time = omega (arith, time t);
+    }
+
+pub walk-spec : {M : Type 1} → statement M
+walk-spec =
+    tie.close
+    (tie.spec
+    Inv-loop
+    μ-loop
+    mul-row
+    array-read-row
+    mul-here
+    array-copy-out-here
+    loop-holds
+    highest-requires
+    stopped-requires
+    returns
+    sub-d
+    mul-row-2
+    array-read-row-2
+    mul-here-2
+    array-copy-out-here-2
+    loop-less
+    loop-again
+    stopped-requires-2
+    returns-2
+    add-steps
+    array-write-place
+    with-requires
+    without-requires
+    cast-children
+    mul-children
+    element-copy-out-children
+    children-requires
+    over-requires
+    cast-shared
+    mul-shared
+    element-copy-out-shared
+    shared-requires
+    add-len
+    mul-ahead
+    array-write-ahead
+    mul-levels
+    array-set-from-levels
+    onward-requires
+    lowest-requires
+    stopped-requires-3
+    returns-3
+    loop-less-2
+    loop-again-2)

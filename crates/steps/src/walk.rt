@@ -1,0 +1,161 @@
+// The walk: step after step until a path reaches a root, none waits, or the budget is spent. What waits is kept by depths, as rows
+// of places: the room is not touched.
+use crate::Reply;
+use card::Bundle;
+use card::RootPlace;
+use policy::Seats;
+use policy::Standing;
+use policy::added;
+use policy::begun;
+use policy::over;
+use rows::Row;
+use rows::below;
+use rows::highest;
+use rows::lowest;
+use rows::shared;
+use rows::with;
+use rows::without;
+ghost use mathlib.Core.List.{List, [], _∷_};
+ghost use mathlib.Core.Path.{_≡_};
+ghost use Prim.Native.Nat.{ℕ, _+_, _≤_, _<_};
+ghost use lib.ListN.{set};
+ghost use Rattle.steps.specs.Answer.{placesBy};
+ghost use Rattle.rows.specs.Rows.{joined, left, common};
+ghost use Rattle.steps.specs.Parts.{rootsBy, stackOf, Ready, onward, Ends, Stopped};
+
+// What a walk keeps of a depth beside the places that are still to be taken there: the places that the path before leaves free, and how
+// that path stands.
+pub(crate) struct Level {
+    pub(crate) free: u64,
+    pub(crate) standing: Standing,
+}
+
+// Where a walk stands: its depth, the places taken before it, and for each depth up to it the places ahead and the level.
+pub(crate) struct Depths {
+    pub(crate) place: [u8; Bundle::MOST],
+    pub(crate) ahead: [u64; Bundle::MOST],
+    pub(crate) levels: [Level; Bundle::MOST],
+    pub(crate) depth: usize,
+}
+
+// Where a walk stopped: its reply, the path beside it as the first so many places, and what waits at so many depths.
+pub(crate) struct End {
+    pub(crate) reply: Reply,
+    pub(crate) len: usize,
+    pub(crate) place: [u8; Bundle::MOST],
+    pub(crate) ahead: [u64; Bundle::MOST],
+    pub(crate) depths: usize,
+}
+
+// Where a search begins: the leaf alone waits.
+pub(crate) fn first(n: u8, seats: &[u64; Seats::ROWS]) -> Depths
+    requires { ⌜ (1 ≤ n) × (n ≤ 16) ⌝ }
+    ensures { λ r. ⌜ ((rows : List ℕ) → Ready (placesBy rows n) (now (seats .entry)) r) ⌝ }
+    ensures { λ r. ⌜ stackOf n r ≡ (0 ∷ []) ∷ [] ⌝ }
+{
+    let standing = begun(seats);
+    let level = Level {
+        free: below(n),
+        standing,
+    };
+    Depths {
+        place: [0u8; Bundle::MOST],
+        ahead: [with(0, 0); Bundle::MOST],
+        levels: [level; Bundle::MOST],
+        depth: 0,
+    }
+}
+
+// The places by which a path goes on from place i, which these places issued.
+fn children(level: Level, i: u8, issuers: u64) -> u64
+    ensures { λ r. ⌜ r ≡ common (left (level .free) (joined 0 i)) issuers ⌝ }
+{
+    shared(without(level.free, with(0, i)), issuers)
+}
+
+// The level after one, where the path goes on by place i.
+fn onward(level: Level, i: u8, seats: &[u64; Seats::ROWS]) -> Level
+    ensures { λ r. ⌜ r ≡ onward (now (seats .entry)) level i ⌝ }
+{
+    let free = without(level.free, with(0, i));
+    let before = level.standing;
+    let standing = added(seats, before, i);
+    Level { free, standing }
+}
+
+// The walk from where it stands on.
+pub(crate) fn walk(
+    from: Depths,
+    n: u8,
+    rows: &[u64; Bundle::MOST],
+    roots: &[u64; Bundle::MOST],
+    seats: &[u64; Seats::ROWS],
+    budget: u64,
+) -> End
+    requires { ⌜ (n ≤ 16) × Ready (placesBy (now rows) n) (now seats) from ⌝ }
+    ensures { λ r. ⌜ Stopped (placesBy (now (rows .entry)) n) (Ends (placesBy (now (rows .entry)) n) (rootsBy (now (roots .entry)) (now (seats .entry))) budget (stackOf n from)) (stackOf n from) r ⌝ }
+{
+    let mut ahead = from.ahead;
+    let mut levels = from.levels;
+    let mut place = from.place;
+    let mut d = from.depth;
+    let mut row = ahead[d];
+    let mut here = levels[d];
+    let mut steps = 0;
+    loop {
+        let i = highest(row);
+        if Row::PLACES <= i {
+            if d == 0 {
+                return stopped(Reply::Refused { steps }, 0, place, ahead, d, row);
+            }
+            d -= 1;
+            row = ahead[d];
+            here = levels[d];
+            continue;
+        }
+        if budget <= steps {
+            return stopped(Reply::Exhausted { steps }, 0, place, ahead, d, row);
+        }
+        steps += 1;
+        place[d] = i;
+        row = without(row, with(0, i));
+        let next = children(here, i, rows[i as usize]);
+        let standing = here.standing;
+        let tops = shared(over(standing, i), roots[i as usize]);
+        let len = d + 1;
+        if next != 0 {
+            ahead[d] = row;
+            levels[d] = here;
+            here = onward(here, i, seats);
+            row = next;
+            d = len;
+        }
+        if tops != 0 {
+            let root = RootPlace(lowest(tops));
+            return stopped(Reply::Accepted { root, steps }, len, place, ahead, d, row);
+        }
+    }
+}
+
+// Stopped at a depth: its row is put back among the others.
+fn stopped(
+    reply: Reply,
+    len: usize,
+    place: [u8; Bundle::MOST],
+    ahead: [u64; Bundle::MOST],
+    depth: usize,
+    row: u64,
+) -> End
+    requires { ⌜ depth < 16 ⌝ }
+    ensures { λ r. ⌜ r ≡ record { reply = reply; len = len; place = place; ahead = set ahead depth row; depths = depth + 1 } ⌝ }
+{
+    let mut all = ahead;
+    all[depth] = row;
+    End {
+        reply,
+        len,
+        place,
+        ahead: all,
+        depths: depth + 1,
+    }
+}
