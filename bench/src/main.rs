@@ -3,6 +3,7 @@
 mod answer;
 mod cards;
 mod clock;
+mod depths;
 mod inputs;
 mod library;
 mod ordinary;

@@ -2,13 +2,18 @@
 
 use crate::clock::{agreed, times, Job};
 use crate::inputs::{self, Alike, Ordinary, HOST};
-use crate::versions::{Version, BEFORE, LIBRARY, ORDINARY, PACKED, TUNED, UPSTREAM};
+use crate::versions::{Version, BEFORE, DEPTHS, LIBRARY, ORDINARY, PACKED, TUNED, UPSTREAM};
 use std::time::Duration;
 
-const ALL: [&Version; 6] = [&LIBRARY, &BEFORE, &ORDINARY, &UPSTREAM, &TUNED, &PACKED];
+const ALL: [&Version; 7] = [
+    &LIBRARY, &BEFORE, &ORDINARY, &UPSTREAM, &TUNED, &PACKED, &DEPTHS,
+];
 
 /// Those whose parts are timed too.
 const CLOSE: [&Version; 3] = [&LIBRARY, &BEFORE, &TUNED];
+
+/// Those whose steps are timed: the ones that allocate nothing.
+const WALKS: [&Version; 5] = [&LIBRARY, &BEFORE, &TUNED, &PACKED, &DEPTHS];
 
 /// Whole answers, from the bytes of the file: the library's time, and its ratio to each other version.
 pub fn beside(lasting: Duration) {
@@ -109,10 +114,10 @@ pub fn steps(lasting: Duration) {
     header(
         &["complete graph of", "steps"],
         &["no root: ", "32 roots in vain: "],
-        &CLOSE,
+        &WALKS,
     );
     for certificates in 5..=10 {
-        let steps = agreed(&inputs::complete(certificates, u64::MAX), &CLOSE).steps;
+        let steps = agreed(&inputs::complete(certificates, u64::MAX), &WALKS).steps;
         let without = a_step(inputs::complete, certificates, lasting);
         let with = a_step(inputs::barred, certificates, lasting);
         println!("| {certificates} | {steps} | {without} | {with} |");
@@ -122,19 +127,19 @@ pub fn steps(lasting: Duration) {
 /// What the whole search of such a file takes beyond a search of one step, by the step.
 fn a_step(file: fn(usize, u64) -> Vec<u8>, certificates: usize, lasting: Duration) -> String {
     let all = file(certificates, u64::MAX);
-    let steps = agreed(&all, &CLOSE).steps;
-    let more = difference(&file(certificates, 1), &all, lasting);
+    let steps = agreed(&all, &WALKS).steps;
+    let more = difference(&file(certificates, 1), &all, &WALKS, lasting);
     let each: Vec<f64> = more.iter().map(|time| time / (steps - 1) as f64).collect();
     ratios(&each, nanos)
 }
 
 /// What one file takes more than another.
-fn difference(less: &[u8], more: &[u8], lasting: Duration) -> Vec<f64> {
-    agreed(less, &CLOSE);
-    agreed(more, &CLOSE);
-    let both = [jobs(less, &CLOSE), jobs(more, &CLOSE)].concat();
+fn difference(less: &[u8], more: &[u8], versions: &[&Version], lasting: Duration) -> Vec<f64> {
+    agreed(less, versions);
+    agreed(more, versions);
+    let both = [jobs(less, versions), jobs(more, versions)].concat();
     let times = times(&both, lasting);
-    let (less, more) = times.split_at(CLOSE.len());
+    let (less, more) = times.split_at(versions.len());
     more.iter()
         .zip(less)
         .map(|(more, less)| more - less)
@@ -173,7 +178,7 @@ pub fn issuing(lasting: Duration) {
                     signed,
                     budget: 0,
                 });
-                let past_reading = difference(&left_over(file.clone()), &file, lasting);
+                let past_reading = difference(&left_over(file.clone()), &file, &CLOSE, lasting);
                 ratios(&past_reading, micros)
             });
             println!("| {certificates} | {roots} | {} |", taken.join(" | "));

@@ -3,7 +3,7 @@
 use crate::answer::Answer;
 use crate::question::Question;
 use crate::reader::Card;
-use crate::{library, ordinary, packed, tuned};
+use crate::{depths, library, ordinary, packed, tuned};
 
 /// The slots needed for a bundle of so many certificates.
 pub const SLOTS: [usize; 17] = [
@@ -44,6 +44,11 @@ pub const TUNED: Version = Version {
 pub const PACKED: Version = Version {
     name: "packed",
     search: |file, room| search(file, room, |question, _| packed::walk(question)),
+};
+
+pub const DEPTHS: Version = Version {
+    name: "depths",
+    search: |file, room| search(file, room, |question, _| depths::walk(question)),
 };
 
 /// A search that walks over what the reader without allocation has read.

@@ -1,0 +1,159 @@
+//! Rust by depths: the library's own walk. What waits is kept as a row of places for each depth of the path, and the roots that may still
+//! stand above as a row beside it, so that a step goes through no path. The lent room is left as it is.
+
+use crate::answer::Answer;
+use crate::question::Question;
+
+/// Where a walk stands at one depth.
+#[derive(Clone, Copy)]
+struct Rows {
+    /// The places still to be taken here.
+    ahead: u32,
+    /// The places that the path before leaves free.
+    free: u32,
+    /// The roots that may stand above a path that ends here: none where a place before may not stand where it does.
+    standing: u32,
+}
+
+impl Rows {
+    /// At the first depth only the leaf is to be taken.
+    fn first(size: usize, standing: u32) -> Rows {
+        Rows {
+            ahead: 1,
+            free: (1 << size) - 1,
+            standing,
+        }
+    }
+
+    /// Takes the highest place, which the versions with a stack push last.
+    fn take(&mut self) -> usize {
+        let place = self.ahead.ilog2();
+        self.ahead ^= 1 << place;
+        place as usize
+    }
+
+    /// The rows past a place, by the places that issued it and those that may stand where it does.
+    fn past(self, place: usize, issuers: u32, seats: u32) -> Rows {
+        let taken = 1 << place;
+        let free = self.free ^ taken;
+        Rows {
+            ahead: free & issuers,
+            free,
+            standing: if seats & taken != 0 { self.standing } else { 0 },
+        }
+    }
+}
+
+/// The rows of the depths before, each kind by itself, since a number is found faster than a struct of three.
+struct Depths {
+    ahead: [u32; 16],
+    free: [u32; 16],
+    standing: [u32; 16],
+}
+
+impl Depths {
+    const NONE: Depths = Depths {
+        ahead: [0; 16],
+        free: [0; 16],
+        standing: [0; 16],
+    };
+
+    fn keep(&mut self, depth: usize, rows: Rows) {
+        self.ahead[depth] = rows.ahead;
+        self.free[depth] = rows.free;
+        self.standing[depth] = rows.standing;
+    }
+
+    fn kept(&self, depth: usize) -> Rows {
+        Rows {
+            ahead: self.ahead[depth],
+            free: self.free[depth],
+            standing: self.standing[depth],
+        }
+    }
+}
+
+/// What the path lengths let stand at each depth, worked out once.
+struct Limits {
+    /// The places that may stand there.
+    seats: [u32; 16],
+    /// The roots that may stand above a path that ends there.
+    above: [u32; 16],
+}
+
+impl Limits {
+    const NONE: Limits = Limits {
+        seats: [0; 16],
+        above: [0; 16],
+    };
+
+    /// What may stand at a depth may stand at every lesser one, so each is entered at its deepest and then handed on.
+    fn fill(&mut self, question: &Question) {
+        self.enter_places(question);
+        self.enter_roots(question);
+        for depth in (1..question.size).rev() {
+            self.seats[depth - 1] |= self.seats[depth];
+            self.above[depth - 1] |= self.above[depth];
+        }
+        self.seats[0] = 1;
+    }
+
+    fn enter_places(&mut self, question: &Question) {
+        for place in 1..question.size {
+            let deepest = usize::from(question.place_limits[place]) + 1;
+            self.seats[deepest.min(question.size - 1)] |= u32::from(question.between) & 1 << place;
+        }
+    }
+
+    /// Only roots that issued some place are ever asked for.
+    fn enter_roots(&mut self, question: &Question) {
+        let rows = question.roots[..question.size].iter();
+        let mut roots = rows.fold(0, |all, row| all | row);
+        while roots != 0 {
+            let root = roots.trailing_zeros() as usize;
+            let deepest = usize::from(question.root_limits[root]);
+            self.above[deepest.min(question.size - 1)] |= 1 << root;
+            roots &= roots - 1;
+        }
+    }
+}
+
+pub fn walk(question: &Question) -> Answer {
+    let mut limits = Limits::NONE;
+    limits.fill(question);
+    // as wide as the rows that they meet: those of 16 bits take longer to load
+    let issuers = question.issuers.map(u32::from);
+    let mut rows = Rows::first(question.size, limits.above[0]);
+    let mut before = Depths::NONE;
+    let mut path = [0; 16];
+    let mut depth = 0;
+    let mut left = question.budget;
+    loop {
+        if rows.ahead == 0 {
+            if depth == 0 {
+                return Answer::without_path(1, question.budget - left);
+            }
+            depth -= 1;
+            rows = before.kept(depth);
+            continue;
+        }
+        if left == 0 {
+            return Answer::without_path(2, question.budget);
+        }
+        left -= 1;
+        let place = rows.take();
+        path[depth] = place as u8;
+        let mut next = rows.past(place, issuers[place], limits.seats[depth]);
+        let roots = next.standing & question.roots[place];
+        if roots != 0 {
+            let root = roots.trailing_zeros() as u8;
+            return Answer::accepted(question.budget - left, root, &path[..=depth]);
+        }
+        if next.ahead != 0 {
+            before.keep(depth, rows);
+            depth += 1;
+            next.standing &= limits.above[depth];
+            rows = next;
+        }
+    }
+}
