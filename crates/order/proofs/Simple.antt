@@ -21,6 +21,10 @@ last-at x (y ∷ l) =
     let e : suc (length (y ∷ l) - 1) ≡ length (x ∷ y ∷ l) - 1 = omega arith in
     last-at y l ∙ ap (λ (n : ℕ). getD (x ∷ y ∷ l) n 0) e
 
+pub last-snoc : (x : ℕ) (p : List ℕ) (i : ℕ) → last x (snoc p i) ≡ i
+last-snoc x [] i = refl
+last-snoc x (y ∷ p) i = last-snoc y p i
+
 -- ---- the tests
 
 T-true : (b : Bool) → T b → b ≡ true

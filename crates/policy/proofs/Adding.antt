@@ -8,7 +8,7 @@ use mathlib.Core.Path.{_≡_, refl}
 use borrow.Author.Tests.{lt-ltb, le-ltb}
 use lib.ListN.{getD}
 use Rattle.rows.specs.Rows.{has, common, below}
-use Rattle.order.specs.Paths.{last}
+use Rattle.order.proofs.Simple.{last-snoc}
 use Rattle.policy.specs.Standing.{placesAt, rootsAt, begun, over, added, addedAll, standing, above, rootsOver}
 use Rattle.policy.specs.declared.standing.Standing.{Standing}
 
@@ -49,11 +49,7 @@ module _ (seats : List ℕ) where
   above-last s x [] i = refl
   above-last s x (y ∷ l) i = above-last (added seats s x) y l i
 
-  last-more : (x : ℕ) (l : List ℕ) (i : ℕ) → last x (l ++ i ∷ []) ≡ i
-  last-more x [] i = refl
-  last-more x (y ∷ l) i = last-more y l i
-
   pub over-more : (issued p : List ℕ) (i : ℕ) → rootsOver issued seats (p ++ i ∷ []) ≡ common (over (standing seats p) i) (getD issued i 0)
   unfolding rootsOver above addedAll
   over-more issued [] i = refl
-  over-more issued (x ∷ l) i = rw (above-last (begun seats) x l i, last-more x l i)
+  over-more issued (x ∷ l) i = rw (above-last (begun seats) x l i, last-snoc x l i)

@@ -50,6 +50,7 @@ unfoldable pub addedAll : List ℕ → Standing → List ℕ → Standing
 addedAll seats s [] = s
 addedAll seats s (i ∷ l) = addedAll seats (added seats s i) l
 
+-- a path, from the leaf on
 abbrev pub standing : List ℕ → List ℕ → Standing
 standing seats p = addedAll seats (begun seats) p
 

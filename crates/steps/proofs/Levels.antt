@@ -14,7 +14,7 @@ use lib.Seq.{length-take-le, take-set-le, take-suc-set, getD-set-same, getD-set-
 use Rattle.order.specs.Listing.{_among_}
 use Rattle.order.specs.Paths.{Places, Simple, last}
 use Rattle.order.specs.Walk.{put, keep, down, used, snoc, next, kids, pop, pops, top}
-use Rattle.order.proofs.Simple.{simple-length}
+use Rattle.order.proofs.Simple.{last-snoc, simple-length}
 use Rattle.order.proofs.Tree.{kid-simple, start-simple}
 use Rattle.rows.specs.Rows.{has, joined, left, common, highest, below}
 use Rattle.rows.proofs.Places.{has-none, has-joined, has-dropped, has-common}
@@ -26,7 +26,7 @@ use Rattle.steps.specs.declared.walk.Depths.{Depths}
 use Rattle.steps.specs.declared.walk.Level.{Level}
 use Rattle.steps.specs.Answer.{placesBy}
 use Rattle.steps.specs.Parts.{offered, waiting, levelAt, LevelAfter, stackOf, Ready, onward}
-use Rattle.steps.proofs.Paths.{used-snoc, last-snoc}
+use Rattle.steps.proofs.Paths.{used-snoc}
 use Rattle.steps.proofs.Stack.{length-snoc}
 
 -- ---- the paths that a row offers

@@ -1,10 +1,9 @@
--- Laws of paths. Assumes nothing.
+-- The places that a path and one more use. Assumes nothing.
 use mathlib.Core.Path.{_≡_, refl}
 use mathlib.Core.Bool.{Bool, true, false, _||_}
 use mathlib.Core.List.{List, [], _∷_, _++_}
 use Prim.Native.Nat.{ℕ}
 use lib.Dec.{eqb}
-use Rattle.order.specs.Paths.{last}
 use Rattle.order.specs.Walk.{used}
 
 or-assoc : (a b c : Bool) → _||_ a (_||_ b c) ≡ _||_ (_||_ a b) c
@@ -18,7 +17,3 @@ or-false false = refl
 pub used-snoc : (i : ℕ) (p : List ℕ) (x : ℕ) → used i (p ++ (x ∷ [])) ≡ _||_ (used i p) (eqb i x)
 used-snoc i [] x = or-false (eqb i x)
 used-snoc i (y ∷ p) x = rw (used-snoc i p x) (or-assoc (eqb i y) (used i p) (eqb i x))
-
-pub last-snoc : (d : ℕ) (p : List ℕ) (x : ℕ) → last d (p ++ (x ∷ [])) ≡ x
-last-snoc d [] x = refl
-last-snoc d (y ∷ p) x = last-snoc y p x
