@@ -38,7 +38,8 @@ impl Question {
             let row = rows.next().unwrap_or(&[]);
             fill(&mut question.issuers, row, issuer, place, bundle);
         }
-        let above = above(card);
+        let asked = question.roots.iter().fold(0, |all, row| all | row);
+        let above = above(card, asked);
         question.roots.iter_mut().for_each(|row| *row &= above);
         question
     }
@@ -166,17 +167,20 @@ fn authority(cert: &Record) -> bool {
     cert.has(8) && cert.flags & 96 != 32
 }
 
-/// The roots that may stand above: none where the leaf is not sound.
-fn above(card: &Card) -> u32 {
+/// The roots that may stand above, of those that issued any: none where the leaf is not sound.
+fn above(card: &Card, asked: u32) -> u32 {
     let leaf = &card.bundle.all()[0];
     if !(in_date(leaf, card.now) && well_formed(leaf) && serves(leaf) && named(leaf, card.host)) {
         return 0;
     }
     let sound = |root: &Record| in_date(root, card.now) && !root.has(128) && authority(root);
-    let roots = card.roots.all().iter().enumerate();
-    roots.fold(0, |row, (place, root)| {
-        row | u32::from(sound(root)) << place
-    })
+    let (mut rest, mut row) = (asked, 0);
+    while rest != 0 {
+        let place = rest.trailing_zeros();
+        row |= u32::from(sound(&card.roots.all()[place as usize])) << place;
+        rest &= rest - 1;
+    }
+    row
 }
 
 fn serves(leaf: &Record) -> bool {

@@ -6,6 +6,7 @@ use card::Card;
 use card::Outcome;
 use card::read;
 use issuing::Issuing;
+use issuing::issuers_of;
 use issuing::who_issued;
 use policy::Judged;
 use policy::Seats;
@@ -33,10 +34,12 @@ pub(crate) fn lowest_root(label: &[u8], path: &[u8], file: &[u8]) {
 // The lowest root by which a path qualifies; as many as a row has room for where there is none. An empty path has none, nor has one with a
 // byte that is no place.
 fn top_of(path: &[u8], file: &[u8], card: Card) -> u8 {
+    let issuing = who_issued(file, card);
+    let by_roots = issuing.roots;
     top_judged(
         path,
-        who_issued(file, card),
-        judge(file, card.task.now, card),
+        issuing,
+        judge(file, card.task.now, card, issuers_of(by_roots)),
     )
 }
 

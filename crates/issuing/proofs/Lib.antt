@@ -1,3 +1,4 @@
 pub mod Agrees
 pub mod Fits
+pub mod Issuers
 pub mod Turns

@@ -2,7 +2,7 @@
 -- same, and else one that can't be read is no one's. Assumes nothing.
 use Prim.Native.Nat.{ℕ}
 use mathlib.Core.Bool.{Bool, true, _&&_}
-use mathlib.Core.List.{List}
+use mathlib.Core.List.{List, [], _∷_}
 use Rattle.same.specs.Answers.{sameNames}
 use Rattle.record.specs.Parts.{headOf, keyIdsOf, issuerSpan, subjectSpan}
 use Rattle.record.specs.Certificate.{certificateOf}
@@ -12,7 +12,7 @@ use Rattle.certificates.specs.declared.roots.Roots.{Roots}
 use Rattle.certificates.specs.declared.bundle.Bundle.{Bundle}
 use Rattle.verdicts.specs.Verdicts.{rootSigned, bundleSigned}
 use Rattle.verdicts.specs.declared.Verdicts.{Verdicts}
-use Rattle.rows.specs.Rows.{rowOf, listing}
+use Rattle.rows.specs.Rows.{either, rowOf, listing}
 use Rattle.issuing.specs.Issued.{keysFit}
 use Rattle.issuing.specs.declared.likely.Claim.{Claim}
 
@@ -47,3 +47,8 @@ unfoldable pub rootRows : List ℕ → Roots → Bundle → Verdicts → List �
 rootRows s r b v =
     listing 16 (sizeOf 16 (b .count)) (λ j.
     rowOf (λ i. rootIssuedAt s r v (recordOf (b .count) (b .records) j) i j) (sizeOf 32 (r .count)))
+
+-- those that issued any: they stand in one of the rows
+unfoldable pub issuersOf : List ℕ → ℕ
+issuersOf [] = 0
+issuersOf (row ∷ rows) = either row (issuersOf rows)

@@ -10,8 +10,9 @@ use likely::claim_of;
 pub use likely::likely_issued;
 use row::bundle_row;
 use row::root_row;
+use rows::either;
 ghost use mathlib.Core.Path.{_≡_};
-ghost use Rattle.issuing.specs.Records.{bundleRows, rootRows};
+ghost use Rattle.issuing.specs.Records.{bundleRows, rootRows, issuersOf};
 
 // Who issued whom: a row for each subject of the bundle.
 pub struct Issuing {
@@ -42,4 +43,17 @@ pub fn who_issued(file: &[u8], card: Card) -> Issuing
         bundle: by_bundle,
         roots: by_roots,
     }
+}
+
+// Those that issued any certificate: they stand in one of the rows.
+pub fn issuers_of(rows: [u64; Bundle::MOST]) -> u64
+    ensures { λ r. ⌜ r ≡ issuersOf rows ⌝ }
+{
+    let mut all: u64 = 0;
+    let mut j = Bundle::MOST;
+    while 0 < j {
+        j -= 1;
+        all = either(rows[j], all);
+    }
+    all
 }

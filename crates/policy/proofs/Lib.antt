@@ -1,4 +1,5 @@
 pub mod Adding
+pub mod Asking
 pub mod Chains
 pub mod Filling
 pub mod Frauds

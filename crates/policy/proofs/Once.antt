@@ -86,10 +86,10 @@ module _
     leaf-told : leafSoundAt s time (bytesOf (c .task .host .name) s) (recordOf (c .bundle .count) (c .bundle .records) 0) ≡ answer
     leaf-told = rw (← asked, ← first) (sym told)
 
-    pub above-sound : answer ≡ true → rootsAbove s time c ≡ soundRoots s time (c .roots)
+    pub above-sound : (row : ℕ) → answer ≡ true → rootsAbove s time row c ≡ soundRoots s time row (c .roots)
     unfolding rootsAbove
-    above-sound e = rw (leaf-told, e)
+    above-sound row e = rw (leaf-told, e)
 
-    pub above-unsound : answer ≡ false → rootsAbove s time c ≡ 0
+    pub above-unsound : (row : ℕ) → answer ≡ false → rootsAbove s time row c ≡ 0
     unfolding rootsAbove
-    above-unsound e = rw (leaf-told, e)
+    above-unsound row e = rw (leaf-told, e)

@@ -1,6 +1,6 @@
 -- A loop that judges each place once: it begins with no place (`judging-starts`), and each turn puts a place's limit, and the place itself
--- where it is sound (`judging-joins`) or not (`judging-passes`); it ends with each place judged (`judging-ends`). Assumes nothing.
-use Prim.Native.Nat.{ℕ, _+_, _<_, _≤_}
+-- where it is sound (`judging-joins`) or not (`judging-passes`); places that are not asked for are skipped (`judging-skips`); it ends with each place judged (`judging-ends`). Assumes nothing.
+use Prim.Native.Nat.{ℕ, zero, suc, _+_, _<_, _≤_}
 use mathlib.Core.Bool.{Bool, true, false}
 use mathlib.Core.List.{List}
 use mathlib.Core.Path.{_≡_, sym, ap, _∙_}
@@ -8,7 +8,7 @@ use native.Mathlib.Omega.{arith}
 use lib.ListN.{set, replicate}
 use Rattle.rows.specs.Rows.{rowOf, joined, listing}
 use Rattle.rows.proofs.Places.{row-none, row-more, row-kept}
-use Rattle.rows.proofs.Listing.{listing-none, listing-next}
+use Rattle.rows.proofs.Listing.{listing-none, listing-next, listing-kept}
 
 -- the places below i are judged
 pub record Judging (test : ℕ → Bool) (limit : ℕ → ℕ) (most sound : ℕ) (limits : List ℕ) (i : ℕ) : Type 0 where
@@ -23,6 +23,17 @@ module _ (test : ℕ → Bool) (limit : ℕ → ℕ) (most : ℕ) where
       → (sound ≡ rowOf test size) × (limits ≡ listing most size limit)
   judging-ends sound limits i n size j h k e =
       let q : i ≡ size = omega arith in (j .row ∙ ap (rowOf test) q, j .list ∙ ap (λ m. listing most m limit) q)
+
+  -- places that fail and have no limit are passed over
+  pub judging-skips : (sound : ℕ) (limits : List ℕ) (i d : ℕ) → Judging test limit most sound limits i → i + d ≤ most
+      → ((k : ℕ) → i ≤ k → k < i + d → (test k ≡ false) × (limit k ≡ 0)) → Judging test limit most sound limits (i + d)
+  judging-skips sound limits i zero j h none = let e : i + 0 ≡ i = omega arith in rw e j
+  judging-skips sound limits i (suc d) j h none =
+      let e : i + suc d ≡ i + d + 1 = omega arith in
+      let at = none (i + d) (omega arith) (omega arith) in
+      let r = judging-skips sound limits i d j (omega arith) (λ k m l. none k m (omega arith)) in
+      rw e
+      (record { row = r .row ∙ sym (row-kept test (i + d) (at .0)); list = r .list ∙ listing-kept limit most (i + d) (omega arith) (at .1) })
 
   module _ (sound : ℕ) (limits : List ℕ) (i : ℕ) (j : Judging test limit most sound limits i) (room : i < most) where
     limit-put : (l : ℕ) → l ≡ limit i → set limits i l ≡ listing most (i + 1) limit

@@ -15,8 +15,9 @@ use Rattle.card.specs.declared.Card.{Card}
 use Rattle.card.proofs.Sections.{CardRead}
 use Rattle.card.proofs.Standing.{roots-counted}
 use Rattle.issuing.specs.Issued.{issued}
-use Rattle.issuing.specs.Records.{rootRows}
+use Rattle.issuing.specs.Records.{rootRows, issuersOf}
 use Rattle.issuing.proofs.Agrees.{and-no, no-issuer, root-row-agrees}
+use Rattle.issuing.proofs.Issuers.{issuer-among}
 use Rattle.rules.specs.Rules.{allows}
 use Rattle.policy.specs.Policy.{policy, chainOf}
 use Rattle.policy.specs.Sound.{topSound, soundPlaces, placeLimits, rootLimits, rootsAbove}
@@ -54,12 +55,12 @@ module _ (s : List ℕ) (c : Card) (e : ℕ) (t : CardRead s c e) where
   abbrev pub rows : List ℕ
   rows = rootRows s (c .roots) (c .bundle) (c .verdicts)
 
-  -- what was judged of the card's certificates
+  -- what was judged of the card's certificates, of the roots those that issued any
   abbrev pub judged : Judged
   judged =
       record {
         between = record { sound = soundPlaces s (c .task .now) (c .bundle); limits = placeLimits s (c .bundle) };
-        above = record { sound = rootsAbove s (c .task .now) c; limits = rootLimits s (c .roots) };
+        above = record { sound = rootsAbove s (c .task .now) (issuersOf rows) c; limits = rootLimits s (issuersOf rows) (c .roots) };
       }
 
   -- a root that issued anything is there
@@ -92,9 +93,10 @@ module _ (s : List ℕ) (c : Card) (e : ℕ) (t : CardRead s c e) where
             → between && (b && above r) ≡ (b && policy (content .now) (content .host) (chainOf content 0 l r))
         by-issuer false k = and-no between false refl
         by-issuer true k =
+            let asked = issuer-among rows end r (root-row-agrees s c e t r end ∙ k) in
             rw (
               all-stand-read s c e t (c .task .now) 0 l inside (omega arith),
-              top-read s c e t (c .task .now) (length l) r there (issuer-there r end k) few,
+              top-read s c e t (c .task .now) (issuersOf rows) (length l) r there (issuer-there r end k) asked few,
               policy-by-seat (c .task .now) (content .host) (place 0) (map place l) (top r),
               length-map,
             )

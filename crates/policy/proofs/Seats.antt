@@ -1,5 +1,5 @@
 -- What was judged once per certificate is what a chain's certificates are asked where they stand, on a card that was read:
--- those between (`all-stand-read`), the roots (`top-read`), the leaf (`leaf-read`). Assumes nothing.
+-- those between (`all-stand-read`), the roots that were asked for (`top-read`), the leaf (`leaf-read`). Assumes nothing.
 use Prim.Native.Nat.{ℕ, _+_, _<_, _≤_}
 use mathlib.Core.Path.{_≡_, refl, ap₂}
 use mathlib.Core.Bool.{Bool, true, false, cond, _&&_}
@@ -73,15 +73,15 @@ module _ (s : List ℕ) (c : Card) (e : ℕ) (t : CardRead s c e) (time : ℕ) w
   abbrev top : ℕ → Certificate
   top r = certificateAt (contentOf c s) (root r)
 
-  tops-read : (r : ℕ) → r < c .roots .count → has r (soundRoots s time (c .roots)) ≡ topSound time (top r)
+  tops-read : (asked r : ℕ) → r < c .roots .count → has r asked ≡ true → has r (soundRoots s time asked (c .roots)) ≡ topSound time (top r)
   unfolding soundRoots
-  tops-read r h =
+  tops-read asked r h a =
       let few = roots-most in
-      rw (size-is 32 (c .roots .count) few, has-row (λ i. topSound time (certificateOf (recordOf (c .roots .count) (c .roots .records) i) s)) (c .roots .count) r (omega arith), lt-ltb r (c .roots .count) h, root-is s c e t r h)
+      rw (size-is 32 (c .roots .count) few, has-row (λ i. has i asked && topSound time (certificateOf (recordOf (c .roots .count) (c .roots .records) i) s)) (c .roots .count) r (omega arith), lt-ltb r (c .roots .count) h, a, root-is s c e t r h)
 
-  top-limits-read : (r : ℕ) → r < c .roots .count → getD (rootLimits s (c .roots)) r 0 ≡ limitOf (top r)
+  top-limits-read : (asked r : ℕ) → r < c .roots .count → has r asked ≡ true → getD (rootLimits s asked (c .roots)) r 0 ≡ limitOf (top r)
   unfolding rootLimits
-  top-limits-read r h = rw (size-is 32 (c .roots .count) roots-most, listing-there _ 32 (c .roots .count) r h, root-is s c e t r h)
+  top-limits-read asked r h a = rw (size-is 32 (c .roots .count) roots-most, listing-there _ 32 (c .roots .count) r h, a, root-is s c e t r h)
 
   -- ---- the leaf
 
@@ -97,9 +97,9 @@ module _ (s : List ℕ) (c : Card) (e : ℕ) (t : CardRead s c e) (time : ℕ) w
   above-has true r row = refl
   above-has false r row = has-none r
 
-  pub top-read : (k r : ℕ) → 0 < c .bundle .count → r < c .roots .count → k ≤ 255
-      → stands (rootsAbove s time c) (rootLimits s (c .roots)) k r
+  pub top-read : (asked k r : ℕ) → 0 < c .bundle .count → r < c .roots .count → has r asked ≡ true → k ≤ 255
+      → stands (rootsAbove s time asked c) (rootLimits s asked (c .roots)) k r
       ≡ (leafSound time (contentOf c s .host) (place 0) && topSound time (top r) && allows k (top r))
   unfolding stands rootsAbove contentOf
-  top-read k r z h f =
-      rw (above-has (leafSoundAt s time (bytesOf (c .task .host .name) s) (recordOf (c .bundle .count) (c .bundle .records) 0)) r (soundRoots s time (c .roots)), leaf-read z, tops-read r h, top-limits-read r h, limit-allows k (top r) f)
+  top-read asked k r z h a f =
+      rw (above-has (leafSoundAt s time (bytesOf (c .task .host .name) s) (recordOf (c .bundle .count) (c .bundle .records) 0)) r (soundRoots s time asked (c .roots)), leaf-read z, tops-read asked r h a, top-limits-read asked r h a, limit-allows k (top r) f)

@@ -11,7 +11,7 @@ use Rattle.certificates.specs.Certificates.{recordOf, sizeOf}
 use Rattle.certificates.specs.declared.roots.Roots.{Roots}
 use Rattle.certificates.specs.declared.bundle.Bundle.{Bundle}
 use Rattle.card.specs.declared.Card.{Card}
-use Rattle.rows.specs.Rows.{rowOf, listing}
+use Rattle.rows.specs.Rows.{has, rowOf, listing}
 use Rattle.rules.specs.Rules.{inDate, wellFormed, handled, authority}
 use Rattle.rules.specs.Limits.{limitOf}
 use Rattle.rules.specs.Records.{forServersAt, forHostAt}
@@ -47,15 +47,16 @@ soundPlaces s time b = rowOf (λ i. betweenSound time (placeOf s b i)) (sizeOf 1
 unfoldable pub placeLimits : List ℕ → Bundle → List ℕ
 placeLimits s b = listing 16 (sizeOf 16 (b .count)) (λ i. limitOf (placeOf s b i))
 
-unfoldable pub soundRoots : List ℕ → ℕ → Roots → ℕ
-soundRoots s time r = rowOf (λ i. topSound time (rootOf s r i)) (sizeOf 32 (r .count))
+-- of the roots those that are asked for
+unfoldable pub soundRoots : List ℕ → ℕ → ℕ → Roots → ℕ
+soundRoots s time asked r = rowOf (λ i. has i asked && topSound time (rootOf s r i)) (sizeOf 32 (r .count))
 
-unfoldable pub rootLimits : List ℕ → Roots → List ℕ
-rootLimits s r = listing 32 (sizeOf 32 (r .count)) (λ i. limitOf (rootOf s r i))
+unfoldable pub rootLimits : List ℕ → ℕ → Roots → List ℕ
+rootLimits s asked r = listing 32 (sizeOf 32 (r .count)) (λ i. cond (has i asked) (limitOf (rootOf s r i)) 0)
 
 -- the roots that may stand above: none where the leaf is not sound
-unfoldable pub rootsAbove : List ℕ → ℕ → Card → ℕ
-rootsAbove s time c =
+unfoldable pub rootsAbove : List ℕ → ℕ → ℕ → Card → ℕ
+rootsAbove s time asked c =
     cond (leafSoundAt s time (bytesOf (c .task .host .name) s) (recordOf (c .bundle .count) (c .bundle .records) 0))
-    (soundRoots s time (c .roots))
+    (soundRoots s time asked (c .roots))
     0

@@ -8,7 +8,9 @@ use extensions::Extensions;
 use fields::part;
 use record::Head;
 use record::Record;
+use rows::lowest;
 use rows::with;
+use rows::without;
 use rules::authority;
 use rules::for_host;
 use rules::for_servers;
@@ -32,7 +34,7 @@ pub struct Between {
     pub limits: [u8; Bundle::MOST],
 }
 
-// The same of the roots; none may stand above where the leaf is not sound.
+// The same of the roots that were asked for; none may stand above where the leaf is not sound.
 pub struct Above {
     pub sound: u64,
     pub limits: [u8; Roots::MOST],
@@ -43,15 +45,15 @@ pub struct Judged {
     pub above: Above,
 }
 
-// A card's certificates, each judged once, at a time.
-pub fn judge(file: &[u8], time: u64, card: Card) -> Judged
+// A card's certificates, each judged once, at a time; of the roots only those that are asked for, since most have issued none.
+pub fn judge(file: &[u8], time: u64, card: Card, asked: u64) -> Judged
     ensures { λ r. ⌜ r .between .sound ≡ soundPlaces (now (file .entry)) time (card .bundle) ⌝ }
     ensures { λ r. ⌜ r .between .limits ≡ placeLimits (now (file .entry)) (card .bundle) ⌝ }
-    ensures { λ r. ⌜ r .above .sound ≡ rootsAbove (now (file .entry)) time card ⌝ }
-    ensures { λ r. ⌜ r .above .limits ≡ rootLimits (now (file .entry)) (card .roots) ⌝ }
+    ensures { λ r. ⌜ r .above .sound ≡ rootsAbove (now (file .entry)) time asked card ⌝ }
+    ensures { λ r. ⌜ r .above .limits ≡ rootLimits (now (file .entry)) asked (card .roots) ⌝ }
 {
     let between = places_between(file, time, card.bundle);
-    let above = roots_above(file, time, card.roots);
+    let above = roots_above(file, time, asked, card.roots);
     if leaf_sound(
         file,
         time,
@@ -138,13 +140,14 @@ fn places_between(file: &[u8], time: u64, bundle: Bundle) -> Between
     Between { sound, limits }
 }
 
-fn roots_above(file: &[u8], time: u64, roots: Roots) -> Above
-    ensures { λ r. ⌜ (r .sound ≡ soundRoots (now (file .entry)) time roots) × (r .limits ≡ rootLimits (now (file .entry)) roots) ⌝ }
+fn roots_above(file: &[u8], time: u64, asked: u64, roots: Roots) -> Above
+    ensures { λ r. ⌜ (r .sound ≡ soundRoots (now (file .entry)) time asked roots) × (r .limits ≡ rootLimits (now (file .entry)) asked roots) ⌝ }
 {
     let n = roots.size();
     let mut sound: u64 = 0;
     let mut limits = [0u8; Roots::MOST];
-    let mut i: u8 = 0;
+    let mut rest = asked;
+    let mut i = lowest(rest);
     while i < n {
         let record = roots.record(RootPlace(i));
         let head = record.head(file);
@@ -152,7 +155,8 @@ fn roots_above(file: &[u8], time: u64, roots: Roots) -> Above
         if top_sound(time, head) {
             sound = with(sound, i);
         }
-        i += 1;
+        rest = without(rest, with(0, i));
+        i = lowest(rest);
     }
     Above { sound, limits }
 }

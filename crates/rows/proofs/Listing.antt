@@ -1,5 +1,5 @@
--- A loop that puts a number at each place: it begins with zeros (`listing-none`), each turn puts one more (`listing-next`), and
--- what stands at a place is what was put there (`listing-at`). Zeros alone: `getD-zeros`. Assumes nothing.
+-- A loop that puts a number at each place: it begins with zeros (`listing-none`), each turn puts one more (`listing-next`), or nothing where
+-- that is 0 (`listing-kept`), and what stands at a place is what was put there (`listing-at`). Zeros alone: `getD-zeros`. Assumes nothing.
 use Prim.Native.Nat.{ℕ, zero, suc, _+_, _-_, _<_, _≤_}
 use mathlib.Core.Path.{_≡_, refl, sym, ap, _∙_}
 use mathlib.Core.Bool.{Bool, true, false, cond}
@@ -56,6 +56,13 @@ module _ (f : ℕ → ℕ) where
         let less : most - i - 1 ≡ most - suc i = omega arith in
         rw (replicate-first (most - i) (omega arith), set-at (upTo f i) 0 (replicate (most - i - 1) 0) (f i) i (upTo-length i), add-one, less)
         (sym (append-snoc (upTo f i) (f i) (replicate (most - suc i) 0)))
+
+    pub listing-kept : (i : ℕ) → i < most → f i ≡ 0 → listing most i f ≡ listing most (i + 1) f
+    unfolding listing upTo
+    listing-kept i h e =
+        let less : most - i - 1 ≡ most - suc i = omega arith in
+        rw (replicate-first (most - i) (omega arith), add-one, less)
+        (ap (λ (x : ℕ). upTo f i ++ x ∷ replicate (most - suc i) 0) (sym e) ∙ sym (append-snoc (upTo f i) (f i) (replicate (most - suc i) 0)))
 
     pub listing-there : (n i : ℕ) → i < n → getD (listing most n f) i 0 ≡ f i
     unfolding listing

@@ -16,7 +16,7 @@ use borrow.Author.Tests.{ltb-true, ltb-false, eqb-true, lt-ltb, le-ltb, eq-eqb}
 use lib.Bits.{bitOr, bitAnd, bitXor, or-shr, or-mod, xor-shr, xor-mod, and-shr, and-mod}
 use lib.Dec.{eqb, ltb, lit<, eqb·zero-suc, eqb·suc-zero, eqb·suc-suc}
 use lib.Pow.{pow-lt}
-use Rattle.rows.specs.Rows.{has, joined, left, common, seek, lowest, rowOf}
+use Rattle.rows.specs.Rows.{has, joined, left, common, either, seek, lowest, rowOf}
 
 -- ---- a number's digits
 
@@ -136,6 +136,14 @@ has-common i row other = go (ltb i 64)
   where
     go : (t : Bool) → t && digit i (bitAnd row other) ≡ (t && digit i row) && (t && digit i other)
     go true = digit-and i row other
+    go false = refl
+
+pub has-either : (i row other : ℕ) → has i (either row other) ≡ has i row || has i other
+unfolding has either
+has-either i row other = go (ltb i 64)
+  where
+    go : (t : Bool) → t && digit i (bitOr row other) ≡ (t && digit i row) || (t && digit i other)
+    go true = digit-or i row other
     go false = refl
 
 -- ---- the row of a test

@@ -22,6 +22,10 @@ left row taken = bitXor row (bitAnd row taken)
 unfoldable pub common : ℕ → ℕ → ℕ
 common row other = bitAnd row other
 
+-- the places that stand in one of two rows, or in both
+unfoldable pub either : ℕ → ℕ → ℕ
+either row other = bitOr row other
+
 -- the first number from i on, of so many, that passes a test; the one past them where none does
 unfoldable pub seek : (ℕ → Bool) → ℕ → ℕ → ℕ
 seek test i zero = i

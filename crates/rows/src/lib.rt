@@ -1,6 +1,6 @@
 // A row: a set of places as the bits of one number. A row has room for more places than any limit asks, so that one width serves all.
 ghost use mathlib.Core.Path.{_≡_};
-ghost use Rattle.rows.specs.Rows.{has, joined, left, common, lowest, highest, below};
+ghost use Rattle.rows.specs.Rows.{has, joined, left, common, either, lowest, highest, below};
 
 // The places that a row has room for.
 pub struct Row {}
@@ -41,6 +41,13 @@ pub fn shared(row: u64, other: u64) -> u64
     ensures { λ r. ⌜ r ≡ common row other ⌝ }
 {
     row & other
+}
+
+// The places that stand in one of two rows, or in both.
+pub fn either(row: u64, other: u64) -> u64
+    ensures { λ r. ⌜ r ≡ either row other ⌝ }
+{
+    row | other
 }
 
 // The lowest place of a row; as many as a row has room for where it has none.

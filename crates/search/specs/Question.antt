@@ -4,9 +4,13 @@ use mathlib.Core.Path.{_≡_}
 use Prim.Native.Nat.{ℕ}
 use Rattle.certificates.specs.Certificates.{sizeOf}
 use Rattle.card.specs.declared.Card.{Card}
-use Rattle.issuing.specs.Records.{bundleRows, rootRows}
+use Rattle.issuing.specs.Records.{bundleRows, rootRows, issuersOf}
 use Rattle.policy.specs.Sound.{soundPlaces, placeLimits, rootsAbove, rootLimits}
 use Rattle.search.specs.declared.Question.{Question}
+
+-- the roots that issued any of the bundle
+abbrev pub asked : List ℕ → Card → ℕ
+asked s card = issuersOf (rootRows s (card .roots) (card .bundle) (card .verdicts))
 
 -- q was put from a card and the bytes of its file
 pub record PutFrom (s : List ℕ) (card : Card) (q : Question) : Type 0 where
@@ -15,6 +19,6 @@ pub record PutFrom (s : List ℕ) (card : Card) (q : Question) : Type 0 where
   pub roots : q .issuing .roots ≡ rootRows s (card .roots) (card .bundle) (card .verdicts)
   pub sound : q .judged .between .sound ≡ soundPlaces s (card .task .now) (card .bundle)
   pub limits : q .judged .between .limits ≡ placeLimits s (card .bundle)
-  pub above : q .judged .above .sound ≡ rootsAbove s (card .task .now) card
-  pub tops : q .judged .above .limits ≡ rootLimits s (card .roots)
+  pub above : q .judged .above .sound ≡ rootsAbove s (card .task .now) (asked s card) card
+  pub tops : q .judged .above .limits ≡ rootLimits s (asked s card) (card .roots)
   pub budget : q .budget ≡ card .task .budget

@@ -4,6 +4,7 @@ use card::Card;
 use card::Outcome;
 use card::read;
 use issuing::Issuing;
+use issuing::issuers_of;
 use issuing::who_issued;
 use policy::Judged;
 use policy::judge;
@@ -61,14 +62,17 @@ pub fn paused(file: &[u8], k: u64, room: &mut [u8]) -> Answer
     }
 }
 
-// A card's question: the certificates that the card places in the file, compared and judged.
+// A card's question: the certificates that the card places in the file, compared and judged. A root that issued none
+// is not judged, since no path reaches it.
 fn question_of(file: &[u8], card: Card) -> Question
     ensures { λ r. ⌜ PutFrom (now (file .entry)) card r ⌝ }
 {
+    let issuing = who_issued(file, card);
+    let by_roots = issuing.roots;
     Question {
         size: card.bundle.size(),
-        issuing: who_issued(file, card),
-        judged: judge(file, card.task.now, card),
+        issuing,
+        judged: judge(file, card.task.now, card, issuers_of(by_roots)),
         budget: card.task.budget,
     }
 }

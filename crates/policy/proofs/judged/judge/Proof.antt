@@ -29,7 +29,7 @@ returns c =
     let b = above .before in
     let a = b .before .before .args in
     let s = a .file .now in
-    let sound = above-sound s _ _ _ _ _ (l .leaf-sound .ensures) (p .part .ensures) (r .«record» .ensures) (c .if1 .taken) in (
+    let sound = above-sound s _ _ _ _ _ (l .leaf-sound .ensures) (p .part .ensures) (r .«record» .ensures) _ (c .if1 .taken) in (
       b .places-between .ensures .0,
       (b .places-between .ensures .1, (above .roots-above .ensures .0 ∙ sym sound, above .roots-above .ensures .1)),
     )
@@ -43,7 +43,7 @@ returns-2 c =
     let b = above .before in
     let a = b .before .before .args in
     let s = a .file .now in
-    let none = above-unsound s _ _ _ _ _ (l .leaf-sound .ensures) (p .part .ensures) (r .«record» .ensures) (c .before .if1 .left) in
+    let none = above-unsound s _ _ _ _ _ (l .leaf-sound .ensures) (p .part .ensures) (r .«record» .ensures) _ (c .before .if1 .left) in
     (b .places-between .ensures .0, (b .places-between .ensures .1, (sym none, above .roots-above .ensures .1)))
 
 pub judge-spec : {M : Type 1} → statement M

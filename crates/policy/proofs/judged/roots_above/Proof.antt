@@ -1,33 +1,41 @@
--- `roots_above` answers the roots that may stand above, and each root's limit, whatever the file is: the numbers are in the records. The
--- invariant: the roots below i are judged. Assumes nothing.
+-- `roots_above` answers which of the roots that are asked for may stand above, and the limit of each of them, whatever the file is: the numbers are
+-- in the records. The invariant: i is the lowest of the rest, and those before it are judged. The measure: i grows. Assumes nothing.
 use borrow.Author.Needs.{needs}
 use native.Mathlib.Omega.{arith}
-use Prim.Native.Nat.{_-_, _<_, _≤_}
+use Prim.Native.Nat.{_-_, _≤_}
 use mathlib.Core.Logic.{⊎-elim}
-use mathlib.Core.Path.{sym, ap, _∙_}
+use mathlib.Core.Path.{_≡_, sym, ap, _∙_}
 use Rattle.record.specs.Certificate.{certificateOf}
 use Rattle.record.proofs.Meaning.{own-head}
 use Rattle.certificates.proofs.Records.{size-within}
+use Rattle.rows.specs.Rows.{left, lowest}
 use Rattle.rules.specs.Limits.{limitOf}
 use Rattle.policy.specs.Sound.{topSound, rootOf, soundRoots, rootLimits}
-use Rattle.policy.proofs.Places.{Judging, judging-starts, judging-joins, judging-passes, judging-ends}
+use Rattle.policy.proofs.Asking.{Asking, asking-starts, asking-joins, asking-passes, asking-ends}
+use Rattle.policy.proofs.Filling.{lowest-grows}
 use Rattle.policy.proofs.judged.roots_above.Statement.{statement}
 use Rattle.policy.proofs.judged.roots_above.Tie as tie
 
+few : 32 ≤ 64
+few = omega arith
+
 abbrev Inv-loop : tie.InvT-loop
-Inv-loop file time roots n sound₀ limits₀ i₀ sound limits i =
+Inv-loop file time asked roots n sound₀ limits₀ rest₀ i₀ sound limits rest i =
     (n ≤ 32)
-    × (i ≤ n)
-    × Judging (λ j. topSound time (rootOf file roots j)) (λ j. limitOf (rootOf file roots j)) 32 sound limits i
+    × (i ≡ lowest rest)
+    × Asking asked (λ j. topSound time (rootOf file roots j)) (λ j. limitOf (rootOf file roots j)) 32 few sound limits rest n
 
 abbrev μ-loop : tie.MeasureT-loop
-μ-loop file time roots n sound₀ limits₀ i₀ sound limits i = n - i
+μ-loop file time asked roots n sound₀ limits₀ rest₀ i₀ sound limits rest i = 64 - i
 
 size-requires : tie.Need-size-requires Inv-loop μ-loop
 size-requires c κs = search needs
 
+lowest-requires : tie.Need-lowest-requires Inv-loop μ-loop
+lowest-requires c κs = search needs
+
 loop-holds : tie.Need-loop-holds Inv-loop μ-loop
-loop-holds c = (rw (c .size .ensures) (size-within 32 _), omega arith, judging-starts _ _ 32)
+loop-holds c = (rw (c .before .size .ensures) (size-within 32 _), c .lowest .ensures, asking-starts _ _ _ 32 few _)
 
 record-requires : tie.Need-record-requires Inv-loop μ-loop
 record-requires c κs = search needs
@@ -50,37 +58,49 @@ top-sound-requires c κs = search needs
 with-requires : tie.Need-with-requires Inv-loop μ-loop
 with-requires c κs = search needs
 
-add-i : tie.Need-add-i Inv-loop μ-loop
-add-i c = search needs
+with-requires-2 : tie.Need-with-requires-2 Inv-loop μ-loop
+with-requires-2 c κs = search needs
+
+without-requires : tie.Need-without-requires Inv-loop μ-loop
+without-requires c κs = search needs
+
+lowest-requires-2 : tie.Need-lowest-requires-2 Inv-loop μ-loop
+lowest-requires-2 c κs = search needs
 
 loop-less : tie.Need-loop-less Inv-loop μ-loop
-loop-less c = search needs
+loop-less c =
+    let t = c .before .before .before .before .before .before .before .before in
+    let l = t .before .loop in
+    let rest = c .before .without .ensures ∙ ap (left (l .rest)) (c .before .before .with2 .ensures) in
+    omega (arith, lowest-grows (l .rest) (l .i) (l .inv .1) (omega arith), ap lowest rest, c .lowest2 .ensures)
 
 loop-again : tie.Need-loop-again Inv-loop μ-loop
 loop-again c =
-    let l = c .before .before in
+    let f = c .before .before .before in
+    let l = f .before .before in
     let h = l .before in
     let p = h .before in
     let t = p .before in
-    let a = t .before .before .before .before .args in
+    let a = t .before .before .before .before .before .args in
     let s = a .file .now in
     let j = t .before .loop .inv in
     let own = own-head _ _ s (h .head .ensures) ∙ ap (λ r. certificateOf r s) (p .record .ensures) in
     let limit = l .limit .ensures ∙ ap limitOf own in
-    let test = sym (c .before .top-sound .ensures _ s ∙ ap (topSound (a .time)) own) in
-    let room : t .before .loop .i < 32 = omega arith in (
-      omega arith,
-      omega arith,
-      ⊎-elim (λ w. judging-joins _ _ _ _ _ _ (j .2) room _ _ limit (test ∙ w .0 .taken) (w .2 ∙ w .1 .ensures))
-          (λ w. judging-passes _ _ _ _ _ _ (j .2) room _ _ limit (test ∙ w .0 .left) (w .1))
-          (c .if1 .came),
+    let test = sym (f .before .top-sound .ensures _ s ∙ ap (topSound (a .time)) own) in
+    let rest = c .before .without .ensures ∙ ap (left (t .before .loop .rest)) (c .before .before .with2 .ensures) in (
+      j .0,
+      c .lowest2 .ensures,
+      rw rest
+          (⊎-elim (λ w. asking-joins _ _ _ _ few _ _ _ _ (j .2) (j .0) _ (j .1) (t .loop-test .taken) _ _ limit (test ∙ w .0 .taken) (w .2 ∙ w .1 .ensures))
+          (λ w. asking-passes _ _ _ _ few _ _ _ _ (j .2) (j .0) _ (j .1) (t .loop-test .taken) _ _ limit (test ∙ w .0 .left) (w .1))
+          (f .if1 .came)),
     )
 
 returns : tie.Need-returns Inv-loop μ-loop
 unfolding soundRoots rootLimits
 returns c =
     let j = c .before .loop .inv in
-    judging-ends _ _ _ _ _ _ _ _ (j .2) (j .1) (c .loop-test .left) (c .before .before .size .ensures)
+    asking-ends _ _ _ _ few _ _ _ _ (j .2) (j .0) _ (j .1) (c .loop-test .left) _ (c .before .before .before .size .ensures)
 
 pub roots-above-spec : {M : Type 1} → statement M
 roots-above-spec =
@@ -89,6 +109,7 @@ roots-above-spec =
     Inv-loop
     μ-loop
     size-requires
+    lowest-requires
     loop-holds
     record-requires
     head-requires
@@ -97,7 +118,9 @@ roots-above-spec =
     array-write-limits
     top-sound-requires
     with-requires
-    add-i
+    with-requires-2
+    without-requires
+    lowest-requires-2
     loop-less
     loop-again
     returns)
