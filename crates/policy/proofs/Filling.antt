@@ -1,26 +1,23 @@
--- The two loops that fill the seats, of the places or of the roots alike.
--- The one that marks limits takes the lowest place of what is left each turn: it begins with nothing marked (`marking-starts`), a turn marks the
--- place (`marking-marks`) or passes over a limit that no path reaches (`marking-passes`), what is left begins later each turn
--- (`lowest-grows`), and at the end each place is marked (`marking-ends`).
--- The one that fills goes up the rows: `filling-starts`, `filling-goes-on`, `filling-ends`.
+-- The loop that fills the seats, of the places or of the roots alike. It takes the lowest place of what is left each turn: it begins with those that
+-- may stand nowhere (`marking-starts`), a turn marks the place (`marking-marks`) or passes over a limit that no path reaches
+-- (`marking-passes`), what is left begins later each turn (`lowest-grows`), and at the end the rows are filled (`marking-ends`).
 -- Both parts: each of a row has a limit (`limited`), and the two parts filled are the seats (`seats-filled`); `second-lent`,
 -- `second-back` for lending the second. Assumes nothing.
-use Prim.Native.Nat.{ℕ, _+_, _-_, _≤_, _<_}
-use mathlib.Core.Bool.{Bool, true, false, not, _&&_, _||_, and-true, and-false, and-not-self, and-comm, and-assoc, or-false, false≢true}
+use Prim.Native.Nat.{ℕ, zero, suc, _+_, _≤_, _<_}
+use mathlib.Core.Bool.{Bool, true, false, not, _&&_, _||_, and-true, and-false, and-not-self, or-false, false≢true}
 use mathlib.Core.List.{List, _++_, append-nil}
 use mathlib.Core.Path.{_≡_, refl, sym, ap, _∙_}
 use native.Mathlib.Omega.{arith}
-use borrow.Author.Tests.{ltb-true, ltb-false, eqb-true, eqb-false, leb-true, leb-false, lt-ltb, le-ltb, le-leb, lt-leb, ne-eqb}
-use lib.Dec.{eqb, leb, ltb}
+use borrow.Author.Tests.{ltb-true, ltb-false, eqb-true, eqb-false, lt-ltb, le-ltb, ne-eqb}
+use lib.Dec.{eqb, ltb}
 use lib.ListN.{length, getD, set, replicate, take, drop, length-set, List·getD-append}
 use lib.Seq.{getD-set-same, getD-set-other, getD-append-add, take-at, drop-at}
 use Rattle.rows.specs.Rows.{has, joined, left, common, lowest, below}
 use Rattle.rows.proofs.Listing.{getD-zeros}
 use Rattle.rows.proofs.Places.{has-none, has-joined, has-left, has-common, has-dropped, lowest-least}
 use Rattle.rows.proofs.Upper.{has-below}
-use Rattle.policy.specs.Filling.{Limited, Marked, Filled}
-use Rattle.policy.specs.Judging.{stands}
-use Rattle.policy.specs.Standing.{Seated}
+use Rattle.policy.specs.Filling.{Limited, Filled}
+use Rattle.policy.specs.Standing.{falls, Seated}
 use Rattle.policy.specs.declared.judged.Judged.{Judged}
 
 -- ---- the limits are marked
@@ -48,25 +45,29 @@ module _ (rest i : ℕ) (first : i ≡ lowest rest) (place : i < 64) where
           let k : next ≤ i = ltb-false i next e in
           absurd (false≢true (sym (has-dropped rest i place next ∙ gone next k (eqb next i) refl) ∙ lowest-least (left rest (joined 0 i)) .passes (omega arith)))
 
--- those that are not among the rest are marked
+-- those that are not among the rest are marked, and in the first row those that may stand nowhere
 pub record Marking (sound : ℕ) (limits : List ℕ) (rest : ℕ) (rows : List ℕ) : Type 0 where
   pub size : length rows ≡ 16
   pub kept : (j : ℕ) → has j rest ≡ true → has j sound ≡ true
-  pub marks : (n j : ℕ) → n < 15 → has j (getD rows (n + 1) 0) ≡ has j sound && not (has j rest) && eqb (getD limits j 0) n
+  pub nowhere : (j : ℕ) → has j (getD rows 0 0) ≡ falls sound limits 0 j
+  pub marks : (n j : ℕ) → n < 15 → has j (getD rows (suc n) 0) ≡ has j sound && not (has j rest) && eqb (getD limits j 0) n
 
 module _ (sound : ℕ) (limits : List ℕ) where
-  pub marking-starts : (rows : List ℕ) → rows ≡ replicate 16 0 → Marking sound limits sound rows
+  pub marking-starts : (rows : List ℕ) → rows ≡ replicate 16 0 → Marking sound limits sound (set rows 0 (left (below 64) sound))
+  unfolding falls
   marking-starts rows e =
       rw e
       (record {
         size = refl;
         kept = λ j h. h;
-        marks = λ n j h. ap (has j) (getD-zeros 16 (n + 1)) ∙ has-none j ∙ rw and-not-self;
+        nowhere = λ j. has-left j (below 64) sound ∙ rw (has-below j 64 (omega arith));
+        marks = λ n j h. ap (has j) (getD-zeros 15 n) ∙ has-none j ∙ rw and-not-self;
       })
 
   module _ (rest : ℕ) (rows : List ℕ) (m : Marking sound limits rest rows) where
-    pub marking-ends : Limited sound limits → length limits ≤ lowest rest → Marked sound limits rows
-    marking-ends l h = record { size = m .size; ends = λ n i k. m .marks n i k ∙ rw (none i) (all (has i sound) (eqb (getD limits i 0) n)) }
+    pub marking-ends : Limited sound limits → length limits ≤ lowest rest → Filled sound limits rows
+    unfolding falls
+    marking-ends l h = record { size = m .size; out = out }
       where
         -- nothing is left: it would be among the places that have a limit, and below the lowest
         none : (j : ℕ) → has j rest ≡ false
@@ -77,9 +78,9 @@ module _ (sound : ℕ) (limits : List ℕ) where
             go true e true f = let k = ltb-true j (length limits) f in lowest-least rest .below j (omega arith) (omega arith)
             go true e false f = absurd (false≢true (sym (l .inside j (ltb-false j (length limits) f)) ∙ m .kept j e))
 
-        all : (a b : Bool) → a && true && b ≡ a && b
-        all true b = refl
-        all false b = refl
+        out : (n i : ℕ) → n < 16 → has i (getD rows n 0) ≡ falls sound limits n i
+        out zero i k = m .nowhere i
+        out (suc n) i k = m .marks n i (omega arith) ∙ rw (none i, and-true)
 
     module _ (i : ℕ) (first : i ≡ lowest rest) (place : i < 64) where
       -- those that are marked, and i where it is to be
@@ -104,6 +105,7 @@ module _ (sound : ℕ) (limits : List ℕ) where
           record {
             size = m .size;
             kept = still-kept;
+            nowhere = m .nowhere;
             marks = λ n j k.
                 let far : eqb (getD limits i 0) n ≡ false = ne-eqb (getD limits i 0) n (λ e. omega arith) in
                 m .marks n j k ∙ (rw (far, and-false, or-false) at (marked-more n j));
@@ -115,6 +117,7 @@ module _ (sound : ℕ) (limits : List ℕ) where
           record {
             size = simp length-set (m .size);
             kept = still-kept;
+            nowhere = λ j. ap (has j) (getD-set-other rows (limit + 1) 0 (joined (getD rows (limit + 1) 0) i) 0 (λ e. omega arith)) ∙ m .nowhere j;
             marks = λ n j k. put n j (eqb (getD limits i 0) n) refl ∙ ap (λ (b : Bool). b || (eqb j i && eqb (getD limits i 0) n)) (m .marks n j k) ∙ marked-more n j;
           }
         where
@@ -122,78 +125,13 @@ module _ (sound : ℕ) (limits : List ℕ) where
           limit = getD limits i 0
 
           put : (n j : ℕ) (b : Bool) → eqb limit n ≡ b
-              → has j (getD (set rows (limit + 1) (joined (getD rows (limit + 1) 0) i)) (n + 1) 0) ≡ has j (getD rows (n + 1) 0) || (eqb j i && b)
+              → has j (getD (set rows (limit + 1) (joined (getD rows (limit + 1) 0) i)) (suc n) 0) ≡ has j (getD rows (suc n) 0) || (eqb j i && b)
           put n j true e =
-              let k : limit ≡ n = eqb-true limit n e in
-              rw (← k, getD-set-same rows (limit + 1) (joined (getD rows (limit + 1) 0) i) 0 (omega (arith, m .size)), has-joined, lt-ltb i 64 place, and-true)
+              let k : suc n ≡ limit + 1 = omega (arith, eqb-true limit n e) in
+              rw (k, getD-set-same rows (limit + 1) (joined (getD rows (limit + 1) 0) i) 0 (omega (arith, m .size)), has-joined, lt-ltb i 64 place, and-true)
           put n j false e =
               let k : ¬ (limit ≡ n) = eqb-false limit n e in
-              rw (getD-set-other rows (limit + 1) (n + 1) (joined (getD rows (limit + 1) 0) i) 0 (λ q. k (omega arith)), and-false, or-false)
-
--- ---- the rows are filled
-
--- the rows below n are filled, the others marked
-pub record Filling (sound : ℕ) (limits : List ℕ) (n : ℕ) (rows : List ℕ) : Type 0 where
-  pub size : length rows ≡ 16
-  pub below : (m i : ℕ) → m < n → has i (getD rows m 0) ≡ stands sound limits m i
-  pub ahead : (m i : ℕ) → n ≤ m + 1 → m < 15 → has i (getD rows (m + 1) 0) ≡ has i sound && eqb (getD limits i 0) m
-
--- one more may stand below those that let n - 1 stand there and whose limit that was not
-one-more : (n limit : ℕ) → 1 ≤ n → leb (n - 1) limit && not (eqb limit (n - 1)) ≡ leb n limit
-one-more n limit h = go (leb n limit) refl (eqb limit (n - 1)) refl
-  where
-    go : (b : Bool) → leb n limit ≡ b → (q : Bool) → eqb limit (n - 1) ≡ q → leb (n - 1) limit && not q ≡ b
-    go true e true f = let k = leb-true n limit e in let l = eqb-true limit (n - 1) f in absurd (omega arith)
-    go true e false f = let k = leb-true n limit e in rw (le-leb (n - 1) limit (omega arith))
-    go false e true f = and-false (leb (n - 1) limit)
-    go false e false f =
-        let k = leb-false n limit e in
-        let l : ¬ (limit ≡ n - 1) = eqb-false limit (n - 1) f in
-        rw (lt-leb (n - 1) limit (omega arith))
-
-module _ (sound : ℕ) (limits : List ℕ) where
-  pub filling-starts : (rows : List ℕ) → Marked sound limits rows → Filling sound limits 1 (set rows 0 sound)
-  unfolding stands
-  filling-starts rows m =
-      record {
-        size = simp length-set (m .size);
-        below = λ k i h. first k i (omega arith);
-        ahead = λ k i h l. ap (has i) (getD-set-other rows 0 (k + 1) sound 0 (λ e. omega arith)) ∙ m .ends k i l;
-      }
-    where
-      first : (k i : ℕ) → k ≡ 0 → has i (getD (set rows 0 sound) k 0) ≡ has i sound && leb k (getD limits i 0)
-      first k i e = rw (e, getD-set-same rows 0 sound 0 (omega (arith, m .size)), le-leb 0 (getD limits i 0) (omega arith), and-true)
-
-  module _ (n : ℕ) (rows : List ℕ) (f : Filling sound limits n rows) where
-    pub filling-ends : 16 ≤ n → Filled sound limits rows
-    filling-ends h = record { size = f .size; bear = λ m i k. f .below m i (omega arith) }
-
-    pub filling-goes-on : 1 ≤ n → n < 16 → Filling sound limits (n + 1) (set rows n (left (getD rows (n - 1) 0) (getD rows n 0)))
-    unfolding stands
-    filling-goes-on some room =
-        record {
-          size = simp length-set (f .size);
-          below = λ m i h. next m i h (eqb m n) refl;
-          ahead = λ m i h k. ap (has i) (getD-set-other rows n (m + 1) row 0 (λ e. omega arith)) ∙ f .ahead m i (omega arith) k;
-        }
-      where
-        row : ℕ
-        row = left (getD rows (n - 1) 0) (getD rows n 0)
-
-        -- asked twice of the same row
-        twice : (s a b : Bool) → s && a && not (s && b) ≡ s && (a && not b)
-        twice true a b = refl
-        twice false a b = refl
-
-        marked : (i : ℕ) → has i (getD rows n 0) ≡ has i sound && eqb (getD limits i 0) (n - 1)
-        marked i = let e : n - 1 + 1 ≡ n = omega arith in rw e at (f .ahead (n - 1) i (omega arith) (omega arith))
-
-        next : (m i : ℕ) → m < n + 1 → (b : Bool) → eqb m n ≡ b → has i (getD (set rows n row) m 0) ≡ has i sound && leb m (getD limits i 0)
-        next m i h true e =
-            let k : m ≡ n = eqb-true m n e in
-            rw (k, getD-set-same rows n row 0 (omega (arith, f .size)), has-left, f .below (n - 1) i (omega arith), marked i, twice, one-more n (getD limits i 0) some)
-        next m i h false e =
-            let k : ¬ (m ≡ n) = eqb-false m n e in ap (has i) (getD-set-other rows n m row 0 k) ∙ f .below m i (omega arith)
+              rw (getD-set-other rows (limit + 1) (suc n) (joined (getD rows (limit + 1) 0) i) 0 (λ q. k (omega arith)), and-false, or-false)
 
 -- ---- both parts
 
@@ -205,19 +143,12 @@ limited sound n limits e h =
       inside = λ i k. has-common i sound (below n) ∙ rw (has-below i n h, le-ltb i n (omega arith), and-false);
     }
 
--- the same seats, asked of what was judged
-among : (sound n : ℕ) (limits : List ℕ) → n ≤ 64 → (m i : ℕ) → stands (common sound (below n)) limits m i ≡ ltb i n && stands sound limits m i
-unfolding stands
-among sound n limits h m i = rw (has-common, has-below i n h, and-comm (has i sound) (ltb i n)) (and-assoc (ltb i n) (has i sound) (leb m (getD limits i 0)))
-
 pub seats-filled : (j : Judged) (places roots : List ℕ) → Filled (common (j .between .sound) (below 16)) (j .between .limits) places
     → Filled (common (j .above .sound) (below 32)) (j .above .limits) roots → Seated j (places ++ roots)
 seats-filled j places roots p q =
     record {
-      places = λ n i h.
-          ap (has i) (List·getD-append places roots 0 n (omega (arith, p .size))) ∙ p .bear n i h ∙ among (j .between .sound) 16 (j .between .limits) (omega arith) n i;
-      roots = λ n i h.
-          ap (has i) (after n) ∙ q .bear n i h ∙ among (j .above .sound) 32 (j .above .limits) (omega arith) n i;
+      places = λ n i h. ap (has i) (List·getD-append places roots 0 n (omega (arith, p .size))) ∙ p .out n i h;
+      roots = λ n i h. ap (has i) (after n) ∙ q .out n i h;
     }
   where
     after : (n : ℕ) → getD (places ++ roots) (16 + n) 0 ≡ getD roots n 0

@@ -1,7 +1,8 @@
-// Who may stand where, by the path lengths: filled once, so that a place more costs one look.
+// Who may no longer stand where, by the path lengths: filled once, so that a place more costs one look.
 use crate::Judged;
 use card::Bundle;
 use card::Roots;
+use rows::Row;
 use rows::below;
 use rows::lowest;
 use rows::shared;
@@ -9,11 +10,11 @@ use rows::with;
 use rows::without;
 ghost use mathlib.Core.Path.{_≡_};
 ghost use lib.ListN.{replicate};
-ghost use Rattle.policy.specs.Filling.{Limited, Marked, Filled};
+ghost use Rattle.policy.specs.Filling.{Limited, Filled};
 ghost use Rattle.policy.specs.Standing.{Seated};
 
-// Rows for each number of certificates between a seat and the leaf: the places of the bundle that may stand there, and after those the
-// roots that may.
+// Rows for each number of certificates between a seat and the leaf: the places of the bundle that fall away there, since they may not stand
+// there and with fewer they might, and after those the roots that do.
 pub struct Seats {
     pub rows: [u64; Seats::ROWS],
 }
@@ -42,27 +43,13 @@ pub fn seats_of(judged: Judged) -> Seats
     Seats { rows }
 }
 
-// Row n gets those that let n certificates stand between them and the leaf: those of the row before but for the ones whose limit it was.
+// Row 0 gets those that may stand nowhere, row n + 1 those whose limit is n.
 fn fill(rows: &mut [u64], sound: u64, limits: &[u8])
     requires { ⌜ now rows ≡ replicate 16 0 ⌝ }
     requires { ⌜ Limited sound (now limits) ⌝ }
     ensures { λ _. ⌜ Filled sound (now (limits .entry)) (now (rows .exit)) ⌝ }
 {
-    mark_limits(rows, sound, limits);
-    rows[0] = sound;
-    let mut n = 1;
-    while n < Bundle::MOST {
-        rows[n] = without(rows[n - 1], rows[n]);
-        n += 1;
-    }
-}
-
-// Row n + 1 gets those whose limit is n.
-fn mark_limits(rows: &mut [u64], sound: u64, limits: &[u8])
-    requires { ⌜ now rows ≡ replicate 16 0 ⌝ }
-    requires { ⌜ Limited sound (now limits) ⌝ }
-    ensures { λ _. ⌜ Marked sound (now (limits .entry)) (now (rows .exit)) ⌝ }
-{
+    rows[0] = without(below(Row::PLACES), sound);
     let mut rest = sound;
     let mut i = lowest(rest);
     while (i as usize) < limits.len() {

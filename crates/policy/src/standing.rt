@@ -1,11 +1,11 @@
-// How a path stands under the policy, as a small value that is begun for the leaf and goes on place by place. What each place and each
-// root may bear is read from the seats, which were filled once.
+// How a path stands under the policy, as a small value that is begun for the leaf and goes on place by place. Who falls away as it
+// goes on is read from the seats, which were filled once.
 use crate::Seats;
 use card::Bundle;
 use rows::Row;
 use rows::below;
 use rows::has;
-use rows::shared;
+use rows::without;
 ghost use mathlib.Core.Path.{_≡_};
 ghost use Rattle.policy.specs.Standing.{begun, over, added};
 
@@ -23,7 +23,7 @@ pub fn begun(seats: &[u64; Seats::ROWS]) -> Standing
 {
     Standing {
         places: below(Row::PLACES),
-        roots: seats[Bundle::MOST],
+        roots: without(below(Row::PLACES), seats[Bundle::MOST]),
         below: 0,
     }
 }
@@ -52,8 +52,8 @@ pub fn added(seats: &[u64; Seats::ROWS], standing: Standing, place: u8) -> Stand
     }
     let next = below + 1;
     Standing {
-        places: seats[below],
-        roots: shared(over(standing, place), seats[Bundle::MOST + next]),
+        places: without(standing.places, seats[below]),
+        roots: without(over(standing, place), seats[Bundle::MOST + next]),
         below: next,
     }
 }

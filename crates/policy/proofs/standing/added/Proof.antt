@@ -1,9 +1,6 @@
 -- `added` meets its equation. Assumes nothing.
 use native.Mathlib.Omega.{arith}
-use mathlib.Core.Path.{ap, _∙_}
-use Prim.Native.Nat.{_+_}
-use Rattle.rows.specs.Rows.{common}
-use Rattle.policy.specs.Standing.{rootsAt}
+use mathlib.Core.Path.{_∙_}
 use Rattle.policy.proofs.Adding.{added-full, added-is}
 use borrow.Author.Needs.{needs}
 use Rattle.policy.proofs.standing.added.Statement.{statement}
@@ -18,31 +15,36 @@ returns c = added-full _ _ _ (c .if1 .taken)
 add-next : tie.Need-add-next
 add-next c = search needs
 
-mul-t6 : tie.Need-mul-t6
-mul-t6 c = search needs
+mul-without : tie.Need-mul-without
+mul-without c = search needs
 
-element-copy-out-t10 : tie.Need-element-copy-out-t10
-element-copy-out-t10 c = search needs
+element-copy-out-without : tie.Need-element-copy-out-without
+element-copy-out-without c = search needs
+
+without-requires : tie.Need-without-requires
+without-requires c κs = search needs
 
 over-requires : tie.Need-over-requires
 over-requires c κs = search needs
 
-add-shared : tie.Need-add-shared
-add-shared c = search needs
+add-without : tie.Need-add-without
+add-without c = search needs
 
-mul-shared : tie.Need-mul-shared
-mul-shared c = search needs
+mul-without-2 : tie.Need-mul-without-2
+mul-without-2 c = search needs
 
-element-copy-out-shared : tie.Need-element-copy-out-shared
-element-copy-out-shared c = search needs
+element-copy-out-without-2 : tie.Need-element-copy-out-without-2
+element-copy-out-without-2 c = search needs
 
-shared-requires : tie.Need-shared-requires
-shared-requires c κs = search needs
+without-requires-2 : tie.Need-without-requires-2
+without-requires-2 c κs = search needs
 
 returns-2 : tie.Need-returns-2
-returns-2 c = let s = c .before .before .before .before .before in
-    added-is (s .args .seats .now) (s .args .standing) (s .args .place) (omega (arith, c .before .before .before .before .if1 .left))
-    (c .shared .ensures ∙ ap (λ r. common r (rootsAt (s .args .seats .now) (s .args .standing .below + 1))) (c .before .before .over .ensures))
+returns-2 c =
+    let o = c .before .before in
+    let s = o .before .before .before .before in
+    added-is (s .args .seats .now) (s .args .standing) (s .args .place) (omega (arith, o .before .before .before .if1 .left)) (o .before .without .ensures)
+    (c .without2 .ensures ∙ rw (o .over .ensures))
 
 pub added-spec : {M : Type 1} → statement M
 added-spec =
@@ -51,11 +53,12 @@ added-spec =
     sub-if1
     returns
     add-next
-    mul-t6
-    element-copy-out-t10
+    mul-without
+    element-copy-out-without
+    without-requires
     over-requires
-    add-shared
-    mul-shared
-    element-copy-out-shared
-    shared-requires
+    add-without
+    mul-without-2
+    element-copy-out-without-2
+    without-requires-2
     returns-2)
