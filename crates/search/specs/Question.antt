@@ -9,8 +9,8 @@ use Rattle.policy.specs.Sound.{soundPlaces, placeLimits, rootsAbove, rootLimits
 use Rattle.search.specs.declared.Question.{Question}
 
 -- the roots that issued any of the bundle
-abbrev pub asked : List ℕ → Card → ℕ
-asked s card = issuersOf (rootRows s (card .roots) (card .bundle) (card .verdicts))
+abbrev pub rootIssuers : List ℕ → Card → ℕ
+rootIssuers s card = issuersOf (rootRows s (card .roots) (card .bundle) (card .verdicts))
 
 -- q was put from a card and the bytes of its file
 pub record PutFrom (s : List ℕ) (card : Card) (q : Question) : Type 0 where
@@ -19,6 +19,6 @@ pub record PutFrom (s : List ℕ) (card : Card) (q : Question) : Type 0 where
   pub roots : q .issuing .roots ≡ rootRows s (card .roots) (card .bundle) (card .verdicts)
   pub sound : q .judged .between .sound ≡ soundPlaces s (card .task .now) (card .bundle)
   pub limits : q .judged .between .limits ≡ placeLimits s (card .bundle)
-  pub above : q .judged .above .sound ≡ rootsAbove s (card .task .now) (asked s card) card
-  pub tops : q .judged .above .limits ≡ rootLimits s (asked s card) (card .roots)
+  pub above : q .judged .above .sound ≡ rootsAbove s (card .task .now) (rootIssuers s card) card
+  pub tops : q .judged .above .limits ≡ rootLimits s (rootIssuers s card) (card .roots)
   pub budget : q .budget ≡ card .task .budget

@@ -8,9 +8,6 @@ use Rattle.issuing.specs.Records.{issuersOf}
 use Rattle.issuing.proofs.Issuers.{issuers-none, issuers-more}
 use Rattle.issuing.proofs.issuers_of.Statement.{statement}
 use Rattle.issuing.proofs.issuers_of.Tie as tie
-use Rattle.issuing.proofs.issuers_of.Reads as reads
-use Rattle.issuing.proofs.issuers_of.Lts as lts
-use Rattle.rows.proofs.either.Reads as either-reads
 
 abbrev Inv-loop : tie.InvT-loop
 Inv-loop rows all₀ j₀ all j = (length rows ≡ 16) × (j ≤ 16) × (all ≡ issuersOf (drop j rows))
