@@ -1,9 +1,9 @@
 -- Those that issued any. Who stands in one of the rows is among them (`issuer-among`). The loop takes the rows from the last to the first: it
 -- begins with none (`issuers-none`), and each turn takes one row in (`issuers-more`). Assumes nothing.
 use Prim.Native.Nat.{ℕ, zero, suc, _-_, _≤_, _<_}
-use mathlib.Core.Bool.{Bool, true, false, _||_, false≢true}
+use mathlib.Core.Bool.{true, or-true, false≢true}
 use mathlib.Core.List.{List, [], _∷_}
-use mathlib.Core.Path.{_≡_, refl, sym, ap, _∙_}
+use mathlib.Core.Path.{_≡_, sym, ap, _∙_}
 use native.Mathlib.Omega.{arith}
 use lib.ListN.{length, getD, drop}
 use lib.Seq.{drop-cons, drop-length}
@@ -11,20 +11,11 @@ use Rattle.rows.specs.Rows.{has, either}
 use Rattle.rows.proofs.Places.{has-none, has-either}
 use Rattle.issuing.specs.Records.{issuersOf}
 
-or-left : (a b : Bool) → a ≡ true → a || b ≡ true
-or-left true b h = refl
-or-left false b h = absurd (false≢true h)
-
-or-right : (a b : Bool) → b ≡ true → a || b ≡ true
-or-right true b h = refl
-or-right false b h = h
-
 pub issuer-among : (rows : List ℕ) (j i : ℕ) → has i (getD rows j 0) ≡ true → has i (issuersOf rows) ≡ true
 unfolding issuersOf
 issuer-among [] j i h = absurd (false≢true (sym (has-none i) ∙ h))
-issuer-among (row ∷ rows) zero i h = has-either i row (issuersOf rows) ∙ or-left (has i row) (has i (issuersOf rows)) h
-issuer-among (row ∷ rows) (suc j) i h =
-    has-either i row (issuersOf rows) ∙ or-right (has i row) (has i (issuersOf rows)) (issuer-among rows j i h)
+issuer-among (row ∷ rows) zero i h = has-either i row (issuersOf rows) ∙ rw h
+issuer-among (row ∷ rows) (suc j) i h = has-either i row (issuersOf rows) ∙ rw (issuer-among rows j i h, or-true)
 
 module _ (rows : List ℕ) where
   pub issuers-none : (j : ℕ) → j ≡ length rows → 0 ≡ issuersOf (drop j rows)

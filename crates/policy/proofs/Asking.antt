@@ -11,6 +11,7 @@ use lib.Dec.{eqb, leb}
 use lib.ListN.{set, replicate}
 use Rattle.rows.specs.Rows.{has, joined, left, lowest, rowOf, listing}
 use Rattle.rows.proofs.Places.{has-dropped, lowest-least}
+use Rattle.rows.proofs.Taking.{lowest-there}
 use Rattle.policy.proofs.Places.{Judging, judging-starts, judging-skips, judging-joins, judging-passes, judging-ends}
 
 -- of those asked for, the ones from m on are left
@@ -25,7 +26,7 @@ module _ (asked rest m : ℕ) (from : From asked rest m) (i : ℕ) (first : i �
 
   module _ (place : i < 64) where
     is-asked : has i asked && leb m i ≡ true
-    is-asked = sym (from i) ∙ ap (λ (k : ℕ). has k rest) first ∙ lowest-least rest .passes (omega arith)
+    is-asked = sym (from i) ∙ lowest-there rest i first place
 
     asked-too : has i asked ≡ true
     asked-too = go (has i asked) (leb m i) is-asked

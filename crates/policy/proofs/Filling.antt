@@ -1,6 +1,6 @@
 -- The loop that fills the seats, of the places or of the roots alike. It takes the lowest place of what is left each turn: it begins with those that
 -- may stand nowhere (`marking-starts`), a turn marks the place (`marking-marks`) or passes over a limit that no path reaches
--- (`marking-passes`), what is left begins later each turn (`lowest-grows`), and at the end the rows are filled (`marking-ends`).
+-- (`marking-passes`), and at the end the rows are filled (`marking-ends`).
 -- Both parts: each of a row has a limit (`limited`), and the two parts filled are the seats (`seats-filled`); `second-lent`,
 -- `second-back` for lending the second. Assumes nothing.
 use Prim.Native.Nat.{ℕ, zero, suc, _+_, _≤_, _<_}
@@ -15,35 +15,13 @@ use lib.Seq.{getD-set-same, getD-set-other, getD-append-add, take-at, drop-at}
 use Rattle.rows.specs.Rows.{has, joined, left, common, lowest, below}
 use Rattle.rows.proofs.Listing.{getD-zeros}
 use Rattle.rows.proofs.Places.{has-none, has-joined, has-left, has-common, has-dropped, lowest-least}
+use Rattle.rows.proofs.Taking.{lowest-there}
 use Rattle.rows.proofs.Upper.{has-below}
 use Rattle.policy.specs.Filling.{Limited, Filled}
 use Rattle.policy.specs.Standing.{falls, Seated}
 use Rattle.policy.specs.declared.judged.Judged.{Judged}
 
 -- ---- the limits are marked
-
--- of what is left, the lowest place is taken
-module _ (rest i : ℕ) (first : i ≡ lowest rest) (place : i < 64) where
-  first-left : has i rest ≡ true
-  first-left = ap (λ (k : ℕ). has k rest) first ∙ lowest-least rest .passes (omega arith)
-
-  pub lowest-grows : i < lowest (left rest (joined 0 i))
-  lowest-grows = go (ltb i next) refl
-    where
-      next : ℕ
-      next = lowest (left rest (joined 0 i))
-
-      -- below i nothing was left, and i is gone
-      gone : (j : ℕ) → j ≤ i → (q : Bool) → eqb j i ≡ q → has j rest && not q ≡ false
-      gone j h true e = and-false (has j rest)
-      gone j h false e =
-          let k : ¬ (j ≡ i) = eqb-false j i e in ap (λ (b : Bool). b && true) (lowest-least rest .below j (omega arith) (omega arith))
-
-      go : (b : Bool) → ltb i next ≡ b → i < next
-      go true e = ltb-true i next e
-      go false e =
-          let k : next ≤ i = ltb-false i next e in
-          absurd (false≢true (sym (has-dropped rest i place next ∙ gone next k (eqb next i) refl) ∙ lowest-least (left rest (joined 0 i)) .passes (omega arith)))
 
 -- those that are not among the rest are marked, and in the first row those that may stand nowhere
 pub record Marking (sound : ℕ) (limits : List ℕ) (rest : ℕ) (rows : List ℕ) : Type 0 where
@@ -90,7 +68,7 @@ module _ (sound : ℕ) (limits : List ℕ) where
         where
           go : (q : Bool) → eqb j i ≡ q → has j sound && not (has j rest) && eqb (getD limits j 0) n || (q && eqb (getD limits i 0) n)
               ≡ has j sound && not (has j rest && not q) && eqb (getD limits j 0) n
-          go true e = let k : j ≡ i = eqb-true j i e in let left-there = first-left rest i first place in rw (k, left-there, m .kept i left-there)
+          go true e = let k : j ≡ i = eqb-true j i e in let left-there = lowest-there rest i first place in rw (k, left-there, m .kept i left-there)
           go false e = rw (and-true, or-false)
 
       still-kept : (j : ℕ) → has j (left rest (joined 0 i)) ≡ true → has j sound ≡ true

@@ -1,5 +1,6 @@
 pub mod Listing
 pub mod Places
 pub mod Same
-pub mod Words
+pub mod Taking
 pub mod Upper
+pub mod Words

@@ -1,9 +1,9 @@
 -- What the places of a row are, for those who keep sets in rows.
--- One place: `has-at`, `has-past`, `joined-at`, `joined-past` by its number, then `has-none`, `has-joined`, `has-left`, `has-common` for what makes a row.
+-- One place: `has-at`, `has-past`, `joined-at`, `joined-past` by its number, then `has-none`, `has-joined`, `has-left`, `has-common`, `has-either` for what makes a row.
 -- The row of a test: `has-row`; `row-none`, `row-more`, `row-kept` for a loop.
 -- The first that passes a test: `seek-least` says in words what it is.
--- The lowest place: `lowest-least`. A row without one of its places: `has-dropped`. The highest place is in Upper; that a row is no
--- more than its places, in Same.
+-- The lowest place: `lowest-least`. A row without one of its places: `has-dropped`. A loop over a row's places is in Taking, the
+-- highest place in Upper; that a row is no more than its places, in Same.
 -- What the code's words say of a row is in Words. Assumes nothing.
 use Prim.Native.Nat.{ℕ, zero, suc, _+_, _/_, _%_, _^_, _≤_, _<_}
 use mathlib.Core.Bool.{Bool, true, false, cond, not, _&&_, _||_, false≢true}

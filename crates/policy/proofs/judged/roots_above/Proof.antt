@@ -9,10 +9,10 @@ use Rattle.record.specs.Certificate.{certificateOf}
 use Rattle.record.proofs.Meaning.{own-head}
 use Rattle.certificates.proofs.Records.{size-within}
 use Rattle.rows.specs.Rows.{left, lowest}
+use Rattle.rows.proofs.Taking.{lowest-grows}
 use Rattle.rules.specs.Limits.{limitOf}
 use Rattle.policy.specs.Sound.{topSound, rootOf, soundRoots, rootLimits}
 use Rattle.policy.proofs.Asking.{Asking, asking-starts, asking-joins, asking-passes, asking-ends}
-use Rattle.policy.proofs.Filling.{lowest-grows}
 use Rattle.policy.proofs.judged.roots_above.Statement.{statement}
 use Rattle.policy.proofs.judged.roots_above.Tie as tie
 

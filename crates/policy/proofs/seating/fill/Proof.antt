@@ -8,7 +8,8 @@ use mathlib.Core.Logic.{⊎-elim}
 use Rattle.rows.specs.Rows.{lowest, left}
 use Rattle.rows.proofs.Places.{lowest-least}
 use lib.ListN.{length}
-use Rattle.policy.proofs.Filling.{Marking, marking-starts, marking-ends, marking-marks, marking-passes, lowest-grows}
+use Rattle.policy.proofs.Filling.{Marking, marking-starts, marking-ends, marking-marks, marking-passes}
+use Rattle.rows.proofs.Taking.{lowest-grows}
 use Rattle.policy.proofs.seating.fill.Statement.{statement}
 use Rattle.policy.proofs.seating.fill.Tie as tie
 
