@@ -25,6 +25,10 @@ pub last-snoc : (x : ℕ) (p : List ℕ) (i : ℕ) → last x (snoc p i) ≡ i
 last-snoc x [] i = refl
 last-snoc x (y ∷ p) i = last-snoc y p i
 
+pub last-among : (x : ℕ) (l : List ℕ) → last x l among (x ∷ l)
+last-among x [] = here refl
+last-among x (y ∷ l) = there (last-among y l)
+
 -- ---- the tests
 
 T-true : (b : Bool) → T b → b ≡ true

@@ -3,7 +3,7 @@
 use Prim.Native.Nat.{ℕ, _<_, _≤_}
 use mathlib.Core.Path.{_≡_, refl, sym, ap, _∙_}
 use mathlib.Core.Bool.{Bool, true, false, _&&_, false≢true}
-use mathlib.Core.List.{List, [], _∷_, map}
+use mathlib.Core.List.{List, [], _∷_, map, List·Memᴰ·head as here, List·Memᴰ·tail as there}
 use native.Mathlib.Omega.{arith}
 use lib.Dec.{ltb}
 use lib.ListN.{length, length-map}
@@ -18,15 +18,17 @@ use Rattle.issuing.specs.Issued.{issued}
 use Rattle.issuing.specs.Records.{rootRows, issuersOf}
 use Rattle.issuing.proofs.Agrees.{and-no, no-issuer, root-row-agrees}
 use Rattle.issuing.proofs.Issuers.{issuer-among}
+use Rattle.order.specs.Listing.{_among_}
+use Rattle.order.specs.Paths.{last}
+use Rattle.order.proofs.Simple.{last-among}
 use Rattle.rules.specs.Rules.{allows}
 use Rattle.policy.specs.Policy.{policy, chainOf}
 use Rattle.policy.specs.Sound.{topSound, soundPlaces, placeLimits, rootLimits, rootsAbove}
-use Rattle.order.specs.Paths.{last}
 use Rattle.policy.specs.Judging.{stands, allStand, qualifiesBy}
 use Rattle.policy.specs.Qualifies.{qualifies}
 use Rattle.policy.specs.declared.judged.Judged.{Judged}
 use Rattle.policy.proofs.Chains.{allBetween, leafSound, bySeat, policy-by-seat}
-use Rattle.policy.proofs.Seats.{Inside, all-stand-read, top-read}
+use Rattle.policy.proofs.Seats.{all-stand-read, top-read}
 
 -- ---- tests
 
@@ -36,10 +38,6 @@ two-orders true true t a = refl
 two-orders true false t a = refl
 two-orders false true t a = refl
 two-orders false false t a = refl
-
-pub last-inside : (n p : ℕ) (l : List ℕ) → p < n → Inside n l → last p l < n
-last-inside n p [] h k = h
-last-inside n p (q ∷ l) h k = last-inside n q l (k .0) (k .1)
 
 module _ (s : List ℕ) (c : Card) (e : ℕ) (t : CardRead s c e) where
   abbrev content : Content
@@ -71,7 +69,7 @@ module _ (s : List ℕ) (c : Card) (e : ℕ) (t : CardRead s c e) where
       by-test true k = let q = ltb-true r (length (content .roots)) k in let n = roots-counted s c e t in omega arith
       by-test false k = absurd (false≢true (sym (no-issuer content (root r) j k) ∙ h))
 
-  module _ (l : List ℕ) (there : 0 < c .bundle .count) (inside : Inside (c .bundle .count) l) (few : length l ≤ 255) where
+  module _ (l : List ℕ) (inside : (i : ℕ) → i among (0 ∷ l) → i < c .bundle .count) (few : length l ≤ 255) where
     abbrev end : ℕ
     end = last 0 l
 
@@ -85,7 +83,7 @@ module _ (s : List ℕ) (c : Card) (e : ℕ) (t : CardRead s c e) where
     pub root-judged : (r : ℕ) → qualifiesBy rows judged (0 ∷ l) r ≡ qualifies content (0 ∷ l) r
     unfolding contentOf bySeat qualifiesBy
     root-judged r =
-        let low : end < 16 = let a = last-inside (c .bundle .count) 0 l there inside in let b = count-few 16 s _ _ _ (t .bundle) in omega arith in
+        let low : end < 16 = let a = inside end (last-among 0 l) in let b = count-few 16 s _ _ _ (t .bundle) in omega arith in
         rw (lt-ltb end 16 low)
         (ap (λ b. between && (b && above r)) (root-row-agrees s c e t r end) ∙ by-issuer (issued content (root r) end) refl)
       where
@@ -95,8 +93,8 @@ module _ (s : List ℕ) (c : Card) (e : ℕ) (t : CardRead s c e) where
         by-issuer true k =
             let asked = issuer-among rows end r (root-row-agrees s c e t r end ∙ k) in
             rw (
-              all-stand-read s c e t (c .task .now) 0 l inside (omega arith),
-              top-read s c e t (c .task .now) (issuersOf rows) (length l) r there (issuer-there r end k) asked few,
+              all-stand-read s c e t (c .task .now) 0 l (λ i m. inside i (there m)) (omega arith),
+              top-read s c e t (c .task .now) (issuersOf rows) (length l) r (inside 0 (here refl)) (issuer-there r end k) asked few,
               policy-by-seat (c .task .now) (content .host) (place 0) (map place l) (top r),
               length-map,
             )

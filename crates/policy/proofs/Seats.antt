@@ -3,7 +3,7 @@
 use Prim.Native.Nat.{ℕ, _+_, _<_, _≤_}
 use mathlib.Core.Path.{_≡_, refl, ap₂}
 use mathlib.Core.Bool.{Bool, true, false, cond, _&&_}
-use mathlib.Core.List.{List, [], _∷_, map}
+use mathlib.Core.List.{List, [], _∷_, map, List·Memᴰ·head as here, List·Memᴰ·tail as there}
 use native.Mathlib.Omega.{arith}
 use lib.Dec.{ltb}
 use lib.ListN.{length, getD}
@@ -20,6 +20,7 @@ use Rattle.rows.specs.Rows.{has}
 use Rattle.rows.proofs.Places.{has-row, has-none}
 use Rattle.rows.proofs.Listing.{listing-there}
 use Rattle.issuing.proofs.Agrees.{size-is, root-is, bundled-is}
+use Rattle.order.specs.Listing.{_among_}
 use Rattle.rules.specs.Rules.{allows}
 use Rattle.rules.specs.Limits.{limitOf}
 use Rattle.rules.proofs.LeafRead.{for-servers-read, for-host-read}
@@ -27,11 +28,6 @@ use Rattle.rules.proofs.Limits.{limit-allows}
 use Rattle.policy.specs.Sound.{betweenSound, topSound, leafSoundAt, soundPlaces, placeLimits, soundRoots, rootLimits, rootsAbove}
 use Rattle.policy.specs.Judging.{stands, allStand}
 use Rattle.policy.proofs.Chains.{allBetween, leafSound}
-
--- each of these places is below n
-abbrev pub Inside : ℕ → List ℕ → Type 0
-Inside n [] = Unit {0}
-Inside n (i ∷ l) = (i < n) × Inside n l
 
 module _ (s : List ℕ) (c : Card) (e : ℕ) (t : CardRead s c e) (time : ℕ) where
   abbrev place : ℕ → Certificate
@@ -62,11 +58,11 @@ module _ (s : List ℕ) (c : Card) (e : ℕ) (t : CardRead s c e) (time : ℕ) w
       let few = bundle-most in
       rw (lt-ltb i 16 (omega arith), sound-read i h, limits-read i h, limit-allows k (place i) f)
 
-  pub all-stand-read : (k : ℕ) (l : List ℕ) → Inside (c .bundle .count) l → k + length l ≤ 256
+  pub all-stand-read : (k : ℕ) (l : List ℕ) → ((i : ℕ) → i among l → i < c .bundle .count) → k + length l ≤ 256
       → allStand (soundPlaces s time (c .bundle)) (placeLimits s (c .bundle)) k l ≡ allBetween time k (map place l)
   unfolding allStand allBetween
   all-stand-read k [] h f = refl
-  all-stand-read k (i ∷ l) h f = ap₂ _&&_ (stands-read k i (h .0) (omega arith)) (all-stand-read (k + 1) l (h .1) (omega arith))
+  all-stand-read k (i ∷ l) h f = ap₂ _&&_ (stands-read k i (h i (here refl)) (omega arith)) (all-stand-read (k + 1) l (λ j m. h j (there m)) (omega arith))
 
   -- ---- the roots
 

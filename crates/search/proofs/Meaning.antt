@@ -1,7 +1,7 @@
 -- On a card that was read, the rows and judged places say what the content says: the same places (`places-read`), and for a simple path the
 -- same roots (`qualifies-content`, `qualifies-rows`). Assumes nothing.
 use mathlib.Core.Bool.{Bool, true, false, false≢true}
-use mathlib.Core.List.{List, [], _∷_, List·Memᴰ·head as here, List·Memᴰ·tail as there}
+use mathlib.Core.List.{List, _∷_}
 use mathlib.Core.Path.{_≡_, refl, sym, ap₂, _∙_, fun-ext}
 use Prim.Native.Nat.{ℕ, _<_}
 use native.Mathlib.Omega.{arith}
@@ -16,20 +16,14 @@ use Rattle.card.proofs.Standing.{roots-counted, roots-few, bundle-counted, bund
 use Rattle.issuing.specs.Issued.{issued}
 use Rattle.issuing.specs.Records.{bundleRows}
 use Rattle.issuing.proofs.Agrees.{size-is, bundle-row-agrees}
-use Rattle.order.specs.Listing.{_among_}
 use Rattle.order.specs.Paths.{Simple}
 use Rattle.order.proofs.Simple.{simple-length}
 use Rattle.policy.specs.Judging.{qualifiesBy}
 use Rattle.policy.specs.Qualifies.{qualifies}
 use Rattle.policy.proofs.Qualified.{rows, judged, root-judged, qualifies-there}
-use Rattle.policy.proofs.Seats.{Inside}
 use Rattle.steps.specs.Answer.{placesBy}
 use Rattle.steps.specs.Settles.{Roots, QualifiesBy}
 use Rattle.search.specs.Search.{placesIn, rootsIn}
-
-inside-all : (n : ℕ) (l : List ℕ) → ((x : ℕ) → x among l → x < n) → Inside n l
-inside-all n [] h = tt
-inside-all n (x ∷ l) h = (h x (here refl), inside-all n l (λ y m. h y (there m)))
 
 module _ (s : List ℕ) (c : Card) (e : ℕ) (t : CardRead s c e) where
   abbrev content : Content
@@ -59,8 +53,7 @@ module _ (s : List ℕ) (c : Card) (e : ℕ) (t : CardRead s c e) where
           let n = bundle-counted s c e t in
           let m = bundle-few s c e t in
           let k = simple-length (placesIn content) h′ in
-          let inside : Inside (c .bundle .count) l = inside-all (c .bundle .count) l (λ x y. let z = h′ .inside x (there y) in omega arith) in
-          rw q (root-judged s c e t l (omega arith) inside (omega arith) r)
+          rw q (root-judged s c e t l (λ i x. let z = h′ .inside i x in omega arith) (omega arith) r)
 
   pub qualifies-content : (p : List ℕ) (r : ℕ) → Simple (placesIn content) p → QualifiesBy rootsRead p r → QualifiesBy (rootsIn content) p r
   qualifies-content p r h x = by-test (ltb r (length (content .roots))) refl

@@ -1,16 +1,15 @@
 -- The roots by how a path stands are those by what was judged of its certificates, so that the walk by the one settles the search by the
 -- other (`settled`). Assumes nothing.
 use mathlib.Core.Bool.{Bool, true, false, _&&_, false≢true}
-use mathlib.Core.List.{List, [], _∷_, List·Memᴰ·head as here, List·Memᴰ·tail as there}
+use mathlib.Core.List.{List, [], _∷_}
 use mathlib.Core.Path.{_≡_, refl, sym, _∙_}
 use Prim.Native.Nat.{ℕ, _≤_, _<_}
 use native.Mathlib.Omega.{arith}
 use borrow.Author.Tests.{ltb-true, lt-ltb}
 use lib.Dec.{ltb}
 use Rattle.issuing.specs.declared.Issuing.{Issuing}
-use Rattle.order.specs.Listing.{_among_}
 use Rattle.order.specs.Paths.{Simple, last}
-use Rattle.order.proofs.Simple.{simple-length}
+use Rattle.order.proofs.Simple.{last-among, simple-length}
 use Rattle.policy.specs.Standing.{Seated}
 use Rattle.policy.specs.declared.judged.Judged.{Judged}
 use Rattle.policy.proofs.Qualifying.{roots-qualify}
@@ -21,10 +20,6 @@ use Rattle.steps.specs.Settles.{QualifiesBy, Settles}
 use Rattle.steps.proofs.Agree.{settles-agree}
 use Rattle.steps.proofs.Ends.{ends-settles}
 
-last-inside : (n p : ℕ) (l : List ℕ) → ((x : ℕ) → x among (p ∷ l) → x < n) → last p l < n
-last-inside n p [] h = h p (here refl)
-last-inside n p (q ∷ l) h = last-inside n q l (λ x m. h x (there m))
-
 module _ (issuing : Issuing) (judged : Judged) (n : ℕ) (some : 1 ≤ n) (few : n ≤ 16) (seats : List ℕ) (seated : Seated judged seats) where
   good-same : (p : List ℕ) (r : ℕ) → Simple (placesOf issuing n) p → rootsBy (issuing .roots) seats .good p r ≡ ltb r 32 && rootsOf issuing judged .good p r
   good-same p r s = from-leaf (s .start .0) (s .start .1)
@@ -32,7 +27,7 @@ module _ (issuing : Issuing) (judged : Judged) (n : ℕ) (some : 1 ≤ n) (few :
       from-leaf : (l : List ℕ) → p ≡ 0 ∷ l → rootsBy (issuing .roots) seats .good p r ≡ ltb r 32 && rootsOf issuing judged .good p r
       from-leaf l e =
           let s′ : Simple (placesOf issuing n) (0 ∷ l) = rw e at s in
-          let k = last-inside n 0 l (s′ .inside) in
+          let k = s′ .inside (last 0 l) (last-among 0 l) in
           let h = simple-length (placesOf issuing n) s′ in
           rw e (roots-qualify judged (issuing .roots) seats seated 0 l (omega arith) (omega arith) (omega arith) r)
 

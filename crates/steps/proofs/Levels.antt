@@ -229,9 +229,8 @@ module _ {g : Places} {seats : List ℕ} {st : List (List ℕ)} {ahead : List �
     path-is = rw add-one (take-suc-set place d i (omega (arith, S .lp, S .deep)))
 
     -- its roots
-    pub roots-are : (issued : List ℕ) {tops row : ℕ} → row ≡ over (level .standing) i → tops ≡ common row (getD issued i 0)
-        → tops ≡ rootsOver issued seats (snoc (take d place) i)
-    roots-are issued o e = e ∙ rw (o, S .level .stands) (sym (over-more seats issued (take d place) i))
+    pub roots-are : (issued : List ℕ) {tops : ℕ} → tops ≡ common (over (level .standing) i) (getD issued i 0) → tops ≡ rootsOver issued seats (snoc (take d place) i)
+    roots-are issued e = e ∙ rw (S .level .stands) (sym (over-more seats issued (take d place) i))
 
     -- what does not change
 

@@ -20,6 +20,7 @@ ghost use mathlib.Core.Path.{_≡_};
 ghost use Prim.Native.Nat.{ℕ, _+_, _≤_, _<_};
 ghost use lib.ListN.{set};
 ghost use Rattle.steps.specs.Answer.{placesBy};
+ghost use Rattle.policy.specs.Standing.{over};
 ghost use Rattle.rows.specs.Rows.{joined, left, common};
 ghost use Rattle.steps.specs.Parts.{rootsBy, stackOf, Ready, onward, Ends, Stopped};
 
@@ -73,6 +74,14 @@ fn children(level: Level, i: u8, issuers: u64) -> u64
     shared(without(level.free, with(0, i)), issuers)
 }
 
+// The roots by which a path qualifies that goes on by place i, which these roots issued.
+fn roots_over(level: Level, i: u8, issuers: u64) -> u64
+    ensures { λ r. ⌜ r ≡ common (over (level .standing) i) issuers ⌝ }
+{
+    let standing = level.standing;
+    shared(over(standing, i), issuers)
+}
+
 // The level after one, where the path goes on by place i.
 fn onward(level: Level, i: u8, seats: &[u64; Seats::ROWS]) -> Level
     ensures { λ r. ⌜ r ≡ onward (now (seats .entry)) level i ⌝ }
@@ -120,8 +129,7 @@ pub(crate) fn walk(
         place[d] = i;
         row = without(row, with(0, i));
         let next = children(here, i, rows[i as usize]);
-        let standing = here.standing;
-        let tops = shared(over(standing, i), roots[i as usize]);
+        let tops = roots_over(here, i, roots[i as usize]);
         let len = d + 1;
         if next != 0 {
             ahead[d] = row;

@@ -123,20 +123,17 @@ element-copy-out-children c = low c
 children-requires : tie.Need-children-requires Inv-loop μ-loop
 children-requires c κs = search needs
 
-over-requires : tie.Need-over-requires Inv-loop μ-loop
-over-requires c κs = search needs
+cast-roots-over : tie.Need-cast-roots-over Inv-loop μ-loop
+cast-roots-over c = search needs
 
-cast-shared : tie.Need-cast-shared Inv-loop μ-loop
-cast-shared c = search needs
+mul-roots-over : tie.Need-mul-roots-over Inv-loop μ-loop
+mul-roots-over c = search needs
 
-mul-shared : tie.Need-mul-shared Inv-loop μ-loop
-mul-shared c = search needs
+element-copy-out-roots-over : tie.Need-element-copy-out-roots-over Inv-loop μ-loop
+element-copy-out-roots-over c = low (c .before .before)
 
-element-copy-out-shared : tie.Need-element-copy-out-shared Inv-loop μ-loop
-element-copy-out-shared c = low (c .before .before .before .before)
-
-shared-requires : tie.Need-shared-requires Inv-loop μ-loop
-shared-requires c κs = search needs
+roots-over-requires : tie.Need-roots-over-requires Inv-loop μ-loop
+roots-over-requires c κs = search needs
 
 add-len : tie.Need-add-len Inv-loop μ-loop
 add-len c = search needs
@@ -157,37 +154,37 @@ onward-requires : tie.Need-onward-requires Inv-loop μ-loop
 onward-requires c κs = search needs
 
 -- when the path's roots are known, what came before: the function's beginning, the choice of the place, the path by it
-abbrev entry : tie.After-shared Inv-loop μ-loop → tie.Start Inv-loop μ-loop
-entry t = t .before .before .before .before .before .before .before .before .before .before .before .before .before .before .before .before
+abbrev entry : tie.After-roots-over Inv-loop μ-loop → tie.Start Inv-loop μ-loop
+entry t = t .before .before .before .before .before .before .before .before .before .before .before .before .before .before
 
-abbrev chosen : tie.After-shared Inv-loop μ-loop → tie.After-highest Inv-loop μ-loop
-chosen t = t .before .before .before .before .before .before .before .before .before .before
+abbrev chosen : tie.After-roots-over Inv-loop μ-loop → tie.After-highest Inv-loop μ-loop
+chosen t = t .before .before .before .before .before .before .before .before
 
-abbrev path : tie.After-shared Inv-loop μ-loop → List ℕ
+abbrev path : tie.After-roots-over Inv-loop μ-loop → List ℕ
 path t = snoc (take (chosen t .before .loop .d) (chosen t .before .loop .place)) (chosen t .highest .result)
 
-abbrev graph : tie.After-shared Inv-loop μ-loop → Places
+abbrev graph : tie.After-roots-over Inv-loop μ-loop → Places
 graph t = placesBy (entry t .args .rows .now) (entry t .args .n)
 
-abbrev began : tie.After-shared Inv-loop μ-loop → List (List ℕ)
+abbrev began : tie.After-roots-over Inv-loop μ-loop → List (List ℕ)
 began t = stackOf (entry t .args .n) (entry t .args .from)
 
-some : (t : tie.After-shared Inv-loop μ-loop) → chosen t .highest .result < 64
-some t = omega (arith, t .before .before .before .before .before .before .before .before .before .if1 .left)
+some : (t : tie.After-roots-over Inv-loop μ-loop) → chosen t .highest .result < 64
+some t = omega (arith, t .before .before .before .before .before .before .before .if1 .left)
 
-time : (t : tie.After-shared Inv-loop μ-loop) → chosen t .before .loop .steps < entry t .args .budget
-time t = omega (arith, t .before .before .before .before .before .before .before .before .if3 .left)
+time : (t : tie.After-roots-over Inv-loop μ-loop) → chosen t .before .loop .steps < entry t .args .budget
+time t = omega (arith, t .before .before .before .before .before .before .if3 .left)
 
 -- the row without the place
-fewer : (t : tie.After-shared Inv-loop μ-loop) → t .before .before .before .before .before .before .without .result ≡ left (chosen t .before .loop .row) (joined 0 (chosen t .highest .result))
-fewer t = t .before .before .before .before .before .before .without .ensures ∙ ap (left (chosen t .before .loop .row)) (t .before .before .before .before .before .before .before .with .ensures)
+fewer : (t : tie.After-roots-over Inv-loop μ-loop) → t .before .before .before .before .without .result ≡ left (chosen t .before .loop .row) (joined 0 (chosen t .highest .result))
+fewer t = t .before .before .before .before .without .ensures ∙ ap (left (chosen t .before .loop .row)) (t .before .before .before .before .before .with .ensures)
 
 -- the path's roots as a row
-over : (t : tie.After-shared Inv-loop μ-loop) → t .shared .result ≡ rootsOver (entry t .args .roots .now) (entry t .args .seats .now) (path t)
-over t = roots-are (chosen t .before .loop .inv .stands) (chosen t .highest .ensures) (some t) _ (t .before .before .over .ensures) (t .shared .ensures)
+over : (t : tie.After-roots-over Inv-loop μ-loop) → t .roots-over .result ≡ rootsOver (entry t .args .roots .now) (entry t .args .seats .now) (path t)
+over t = roots-are (chosen t .before .loop .inv .stands) (chosen t .highest .ensures) (some t) _ (t .roots-over .ensures)
 
 -- it was on top
-on-top : (t : tie.After-shared Inv-loop μ-loop) → top (pops (graph t) (chosen t .before .loop .steps) (began t)) ≡ path t ∷ []
+on-top : (t : tie.After-roots-over Inv-loop μ-loop) → top (pops (graph t) (chosen t .before .loop .steps) (began t)) ≡ path t ∷ []
 on-top t = met (chosen t .before .loop .inv .stands) (chosen t .highest .ensures) (some t)
 
 -- the state after the step, and how deep it is
@@ -199,7 +196,7 @@ moved : (c : tie.Joined4 Inv-loop μ-loop) → let t = c .before in
 moved c =
     let t = c .before in
     let S = chosen t .before .loop .inv .stands in
-    let next = t .before .before .before .before .children .ensures in
+    let next = t .before .before .children .ensures in
     ⊎-elim
     (λ w. (rw (w .2, w .3, w .4, w .5, w .6) (sank S (chosen t .highest .ensures) (some t) _ (λ j. refl) next (fewer t) (w .1 .ensures) (omega (arith, w .0 .taken)) (search needs)), omega (arith, w .4)))
     (λ w. (rw (w .1, w .2, w .3, w .4, w .5) (stayed S (chosen t .highest .ensures) (some t) _ (λ j. refl) next (fewer t) (w .0 .left)), omega (arith, w .3)))
@@ -263,11 +260,10 @@ walk-spec =
     mul-children
     element-copy-out-children
     children-requires
-    over-requires
-    cast-shared
-    mul-shared
-    element-copy-out-shared
-    shared-requires
+    cast-roots-over
+    mul-roots-over
+    element-copy-out-roots-over
+    roots-over-requires
     add-len
     mul-ahead
     array-write-ahead
