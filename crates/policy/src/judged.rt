@@ -47,10 +47,10 @@ pub struct Judged {
 
 // A card's certificates, each judged once, at a time; of the roots only those that are asked for, since most have issued none.
 pub fn judge(file: &[u8], time: u64, card: Card, asked: u64) -> Judged
-    ensures { λ r. ⌜ r .between .sound ≡ soundPlaces (now (file .entry)) time (card .bundle) ⌝ }
-    ensures { λ r. ⌜ r .between .limits ≡ placeLimits (now (file .entry)) (card .bundle) ⌝ }
-    ensures { λ r. ⌜ r .above .sound ≡ rootsAbove (now (file .entry)) time asked card ⌝ }
-    ensures { λ r. ⌜ r .above .limits ≡ rootLimits (now (file .entry)) asked (card .roots) ⌝ }
+    ensures places { λ r. ⌜ r .between .sound ≡ soundPlaces (now (file .entry)) time (card .bundle) ⌝ }
+    ensures place_limits { λ r. ⌜ r .between .limits ≡ placeLimits (now (file .entry)) (card .bundle) ⌝ }
+    ensures roots { λ r. ⌜ r .above .sound ≡ rootsAbove (now (file .entry)) time asked card ⌝ }
+    ensures root_limits { λ r. ⌜ r .above .limits ≡ rootLimits (now (file .entry)) asked (card .roots) ⌝ }
 {
     let between = places_between(file, time, card.bundle);
     let above = roots_above(file, time, asked, card.roots);

@@ -30,8 +30,8 @@ fn put_child(room: &mut [u8], t: usize, s: [u8; Slot::BYTES], i: u8)
 fn lay_row(room: &mut [u8], m: usize, s: [u8; Slot::BYTES], row: u64, n: u8) -> usize
     requires { ⌜ (s ≡ slotOf (pathOf s)) × (length (pathOf s) < 16) ⌝ }
     requires { ⌜ 17 * (m + length (offered n row (pathOf s))) ≤ length (now room) ⌝ }
-    ensures { λ r. ⌜ r ≡ m + length (offered n row (pathOf s)) ⌝ }
-    ensures { λ r. ⌜ now (room .exit) ≡ take (17 * m) (now (room .entry)) ++ (flat (offered n row (pathOf s)) ++ drop (17 * r) (now (room .entry))) ⌝ }
+    ensures count { λ r. ⌜ r ≡ m + length (offered n row (pathOf s)) ⌝ }
+    ensures room { λ r. ⌜ now (room .exit) ≡ take (17 * m) (now (room .entry)) ++ (flat (offered n row (pathOf s)) ++ drop (17 * r) (now (room .entry))) ⌝ }
 {
     let mut top = m;
     let mut i: u8 = 0;
@@ -55,8 +55,8 @@ fn lay(
 ) -> usize
     requires { ⌜ depths ≤ 16 ⌝ }
     requires { ⌜ 17 * length (waiting n ahead place depths) ≤ length (now room) ⌝ }
-    ensures { λ r. ⌜ r ≡ length (waiting n ahead place depths) ⌝ }
-    ensures { λ r. ⌜ now (room .exit) ≡ flat (waiting n ahead place depths) ++ drop (17 * r) (now (room .entry)) ⌝ }
+    ensures count { λ r. ⌜ r ≡ length (waiting n ahead place depths) ⌝ }
+    ensures room { λ r. ⌜ now (room .exit) ≡ flat (waiting n ahead place depths) ++ drop (17 * r) (now (room .entry)) ⌝ }
 {
     let mut s = [0u8; Slot::BYTES];
     let mut m = 0;

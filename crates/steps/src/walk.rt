@@ -51,8 +51,8 @@ pub(crate) struct End {
 // Where a search begins: the leaf alone waits.
 pub(crate) fn first(n: u8, seats: &[u64; Seats::ROWS]) -> Depths
     requires { ⌜ (1 ≤ n) × (n ≤ 16) ⌝ }
-    ensures { λ r. ⌜ ((rows : List ℕ) → Ready (placesBy rows n) (now (seats .entry)) r) ⌝ }
-    ensures { λ r. ⌜ stackOf n r ≡ (0 ∷ []) ∷ [] ⌝ }
+    ensures ready { λ r. ⌜ ((rows : List ℕ) → Ready (placesBy rows n) (now (seats .entry)) r) ⌝ }
+    ensures leaf { λ r. ⌜ stackOf n r ≡ (0 ∷ []) ∷ [] ⌝ }
 {
     let standing = begun(seats);
     let level = Level {
