@@ -41,9 +41,10 @@ pub fn times(jobs: &[Job], lasting: Duration) -> Vec<f64> {
     turns.into_iter().zip(calls).map(best).collect()
 }
 
-/// How often a job is called in a turn.
+/// How often a job is called in a turn: by the fastest of a few calls, since by one that was interrupted a turn would have so few that the
+/// clock's own time shows.
 fn calls(job: Job) -> u64 {
-    let once = (0..5).map(|_| turn(job, 1)).max();
+    let once = (0..5).map(|_| turn(job, 1)).min();
     (TURN / once.unwrap_or(TURN).max(1)).clamp(1, 1000)
 }
 

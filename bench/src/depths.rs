@@ -127,33 +127,35 @@ pub fn walk(question: &Question) -> Answer {
     let mut before = Depths::NONE;
     let mut path = [0; 16];
     let mut depth = 0;
-    let mut left = question.budget;
+    let mut steps = 0;
     loop {
         if rows.ahead == 0 {
             if depth == 0 {
-                return Answer::without_path(1, question.budget - left);
+                return Answer::without_path(1, steps);
             }
             depth -= 1;
             rows = before.kept(depth);
             continue;
         }
-        if left == 0 {
-            return Answer::without_path(2, question.budget);
+        if steps == question.budget {
+            return Answer::without_path(2, steps);
         }
-        left -= 1;
+        steps += 1;
         let place = rows.take();
         path[depth] = place as u8;
         let mut next = rows.past(place, issuers[place], limits.seats[depth]);
         let roots = next.standing & question.roots[place];
-        if roots != 0 {
-            let root = roots.trailing_zeros() as u8;
-            return Answer::accepted(question.budget - left, root, &path[..=depth]);
-        }
+        let length = depth + 1;
+        // deeper first, as in the library: with the roots looked at first a step takes nearly twice the time on x86-64
         if next.ahead != 0 {
             before.keep(depth, rows);
-            depth += 1;
+            depth = length;
             next.standing &= limits.above[depth];
             rows = next;
+        }
+        if roots != 0 {
+            let root = roots.trailing_zeros() as u8;
+            return Answer::accepted(steps, root, &path[..length]);
         }
     }
 }
