@@ -17,7 +17,7 @@ use Rattle.verdicts.specs.Verdicts.{verdictsP}
 use Rattle.verdicts.specs.declared.Verdicts.{Verdicts}
 use Rattle.task.specs.Task.{taskP}
 use Rattle.task.specs.declared.Task.{Task}
-use Rattle.card.specs.Card.{editionP, cardP, fileP}
+use Rattle.card.specs.Card.{fileMost, editionP, cardP, fileP}
 use Rattle.card.specs.declared.Card.{Card}
 
 -- what comes after a section, and after that, sees the value that was held
@@ -82,7 +82,7 @@ module _ (s : List ℕ) (begun after-roots after-bundle after-verdicts after-tas
     abbrev whole-card : Card
     whole-card = record { roots = r; bundle = b; verdicts = v; task = t }
 
-    pub chained : passed begun ≡ passing (cond (leb (length s) 65535) (editionP s 0) (stop 5))
+    pub chained : passed begun ≡ passing (cond (leb (length s) fileMost) (editionP s 0) (stop 5))
         → held after-roots r ≡ after (passed begun) (λ _ e. rootsP s e)
         → held after-bundle b ≡ after (passed after-roots) (λ _ e. bundleP s e)
         → held after-verdicts v ≡ after (passed after-bundle) (λ _ e. verdictsP (r .count) (b .count) s e)
@@ -99,4 +99,4 @@ module _ (s : List ℕ) (begun after-roots after-bundle after-verdicts after-tas
         ∙ sym (next-section (with-bundle s r) (ended s) after-roots after-bundle b (bundleP s) bundle)
         ∙ sym (next-section (with-roots s) (ended s) begun after-roots r (rootsP s) roots)
         ∙ ap (λ x. after x (λ _ e. after (with-edition s e) (ended s))) edition
-        ∙ sym (first-section (ended s) (leb (length s) 65535) (editionP s 0) (with-edition s))
+        ∙ sym (first-section (ended s) (leb (length s) fileMost) (editionP s 0) (with-edition s))

@@ -13,7 +13,7 @@ use Rattle.card.specs.declared.Outcome.{Outcome}
 use Rattle.card.specs.declared.Outcome.the-variants.{Read, Stop}
 use Rattle.card.specs.declared.Reading.{Reading}
 
-abbrev outcomeOf : ℕ → Outcome
+abbrev pub outcomeOf : ℕ → Outcome
 outcomeOf n = cond (eqb n 0) Read (Stop (faultOf n))
 
 stop-again : (f : Fault) → outcomeOf (number f) ≡ Stop f
@@ -24,7 +24,7 @@ stop-again BadCount = refl
 stop-again BadValue = refl
 stop-again LeftOver = refl
 
-outcome-again : (o : Outcome) → outcomeOf (numberOf o) ≡ o
+pub outcome-again : (o : Outcome) → outcomeOf (numberOf o) ≡ o
 outcome-again Read = refl
 outcome-again (Stop f) = stop-again f
 

@@ -7,6 +7,7 @@ use native.Mathlib.Omega.{arith}
 use lib.Dec.{leb, ltb}
 use lib.ListN.{length}
 use borrow.Author.Tests.{leb-true, ltb-false}
+use Rattle.places.specs.Limits.{rootsMost, bundleMost}
 use Rattle.fields.specs.Fields.{got, stop, after, whole}
 use Rattle.fields.proofs.After.{after-got, judged-got, got-is}
 use Rattle.certificates.specs.Certificates.{rootsP, bundleP}
@@ -18,24 +19,24 @@ use Rattle.verdicts.specs.declared.Verdicts.{Verdicts}
 use Rattle.verdicts.proofs.Rows.{RowsRead, rows-read}
 use Rattle.task.specs.Task.{taskP}
 use Rattle.task.proofs.Hosts.{HostRead, host-read, host-ends}
-use Rattle.card.specs.Card.{editionP, cardP, fileP}
+use Rattle.card.specs.Card.{fileMost, editionP, cardP, fileP}
 use Rattle.card.specs.declared.Card.{Card}
 
 pub record CardRead (s : List ℕ) (c : Card) (e : ℕ) : Type 0 where
   pub bundle-at : ℕ
   pub verdicts-at : ℕ
   pub task-at : ℕ
-  pub roots : RecordsRead 32 s (c .roots .count) (c .roots .records) bundle-at
-  pub bundle : RecordsRead 16 s (c .bundle .count) (c .bundle .records) verdicts-at
+  pub roots : RecordsRead rootsMost s (c .roots .count) (c .roots .records) bundle-at
+  pub bundle : RecordsRead bundleMost s (c .bundle .count) (c .bundle .records) verdicts-at
   pub verdicts : RowsRead (c .roots .count) (c .bundle .count) s (c .verdicts) task-at
   pub host : HostRead s (c .task .host .name) e
   pub ends : e ≡ length s
-  pub few : length s ≤ 65535
+  pub few : length s ≤ fileMost
 
-module _ (s : List ℕ) (few : length s ≤ 65535) where
+module _ (s : List ℕ) (few : length s ≤ fileMost) where
   -- with the sections before it read, the task makes a card
   task-read : (r : Roots) (b : Bundle) (v : Verdicts) (f g h : ℕ)
-      → RecordsRead 32 s (r .count) (r .records) f → RecordsRead 16 s (b .count) (b .records) g → RowsRead (r .count) (b .count) s v h
+      → RecordsRead rootsMost s (r .count) (r .records) f → RecordsRead bundleMost s (b .count) (b .records) g → RowsRead (r .count) (b .count) s v h
       → (c : Card) (e : ℕ) → after (taskP s h) (λ t i. got (record { roots = r; bundle = b; verdicts = v; task = t }) i) ≡ got c e
       → length s ≤ e → CardRead s c e
   task-read r b v f g h roots bundle verdicts c e is =
@@ -82,5 +83,5 @@ module _ (s : List ℕ) (few : length s ≤ 65535) where
 pub card-read : (s : List ℕ) (c : Card) (e : ℕ) → fileP s ≡ got c e → CardRead s c e
 unfolding fileP
 card-read s c e h =
-    let long = judged-got (leb (length s) 65535) _ 5 h in
-    whole-read s (leb-true (length s) 65535 (long .0)) c e (long .1)
+    let long = judged-got (leb (length s) fileMost) _ 5 h in
+    whole-read s (leb-true (length s) fileMost (long .0)) c e (long .1)

@@ -9,6 +9,7 @@ use lib.Dec.{ltb}
 use lib.ListN.{length, getD, take, length-take, length-map, List·getD-eq-default, List·getD-map}
 use lib.Seq.{length-take-le, getD-take}
 use borrow.Author.Tests.{ltb-true, ltb-false}
+use Rattle.places.specs.Limits.{rootsMost, bundleMost}
 use Rattle.record.specs.Certificate.{certificateOf, listOf}
 use Rattle.record.specs.Fresh.{fresh}
 use Rattle.record.specs.declared.Record.{Record}
@@ -64,24 +65,24 @@ module _ (c : Card) (s : List ℕ) where
 module _ (s : List ℕ) (c : Card) (e : ℕ) (t : CardRead s c e) where
   pub roots-counted : length (contentOf c s .roots) ≡ c .roots .count
   unfolding contentOf
-  roots-counted = certificates-counted 32 s _ _ _ (t .roots)
+  roots-counted = certificates-counted rootsMost s _ _ _ (t .roots)
 
-  pub roots-few : length (contentOf c s .roots) ≤ 32
-  roots-few = omega (arith, roots-counted, count-few 32 s _ _ _ (t .roots))
+  pub roots-few : length (contentOf c s .roots) ≤ rootsMost
+  roots-few = omega (arith, roots-counted, count-few rootsMost s _ _ _ (t .roots))
 
   pub bundle-counted : length (contentOf c s .bundle) ≡ c .bundle .count
   unfolding contentOf
-  bundle-counted = certificates-counted 16 s _ _ _ (t .bundle)
+  bundle-counted = certificates-counted bundleMost s _ _ _ (t .bundle)
 
-  pub bundle-few : length (contentOf c s .bundle) ≤ 16
-  bundle-few = omega (arith, bundle-counted, count-few 16 s _ _ _ (t .bundle))
+  pub bundle-few : length (contentOf c s .bundle) ≤ bundleMost
+  bundle-few = omega (arith, bundle-counted, count-few bundleMost s _ _ _ (t .bundle))
 
   pub verdicts-are : contentOf c s .verdicts ≡ t .verdicts .list
   unfolding contentOf
   verdicts-are = ap listOf (t .verdicts .are)
 
   pub root-stands : (i : ℕ) → i < c .roots .count → Stands s (recordOf (c .roots .count) (c .roots .records) i)
-  root-stands = record-stands 32 s _ _ _ (t .roots) (t .few)
+  root-stands = record-stands rootsMost s _ _ _ (t .roots) (t .few)
 
   pub bundled-stands : (i : ℕ) → i < c .bundle .count → Stands s (recordOf (c .bundle .count) (c .bundle .records) i)
-  bundled-stands = record-stands 16 s _ _ _ (t .bundle) (t .few)
+  bundled-stands = record-stands bundleMost s _ _ _ (t .bundle) (t .few)

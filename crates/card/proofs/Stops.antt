@@ -7,15 +7,16 @@ use mathlib.Core.List.{List}
 use native.Mathlib.Omega.{arith}
 use lib.Dec.{eqb, leb, ltb}
 use lib.ListN.{length, getD}
+use Rattle.places.specs.Limits.{rootsMost, bundleMost}
 use Rattle.fields.specs.Fields.{Parsed, got, stop, after, countP, spanP, stringP, bigP, many, countedP, whole, byteP}
-use Rattle.names.specs.Names.{attrP, rdnP, nameP}
-use Rattle.lists.specs.Lists.{usageP, usagesP, dnsNameP, dnsNamesP, rowP}
-use Rattle.extensions.specs.Extensions.{flag, optionP, keyIdsP, pathLengthP, extensionsP}
-use Rattle.record.specs.Record.{paired, flagsP, datesP, headP, stringsP, namesP, recordP}
+use Rattle.names.specs.Names.{oidMost, valueMost, rdnMost, nameMost, attrP, rdnP, nameP}
+use Rattle.lists.specs.Lists.{usageMost, usagesMost, dnsNameMost, dnsNamesMost, usageP, usagesP, dnsNameP, dnsNamesP, rowP}
+use Rattle.extensions.specs.Extensions.{keyIdMost, serialMost, flag, optionP, keyIdsP, pathLengthP, extensionsP}
+use Rattle.record.specs.Record.{algorithmMost, paired, flagsP, datesP, headP, stringsP, namesP, recordP}
 use Rattle.certificates.specs.Certificates.{rootsP, bundleP}
 use Rattle.verdicts.specs.Verdicts.{verdictP, verdictsP}
-use Rattle.task.specs.Task.{timesP, purposeP, taskP}
-use Rattle.card.specs.Card.{editionP, cardP, fileP}
+use Rattle.task.specs.Task.{hostMost, timesP, purposeP, taskP}
+use Rattle.card.specs.Card.{fileMost, editionP, cardP, fileP}
 use Rattle.card.specs.Answers.{numberOf, told, answer}
 use Rattle.card.specs.declared.Card.{Card}
 use Rattle.card.specs.declared.Outcome.the-variants.{Read}
@@ -84,15 +85,15 @@ module _ (s : List ℕ) where
 
   attr : (at : ℕ) → Stops (attrP s at)
   unfolding attrP
-  attr at = then (stringP 1 16 s at) (string 1 16 at) (λ o e. then (stringP 0 255 s e) (string 0 255 e) (λ v f. goes _ _))
+  attr at = then (stringP 1 oidMost s at) (string 1 oidMost at) (λ o e. then (stringP 0 valueMost s e) (string 0 valueMost e) (λ v f. goes _ _))
 
   rdn : (at : ℕ) → Stops (rdnP s at)
   unfolding rdnP
-  rdn at = counted attrP attr 1 4 at
+  rdn at = counted attrP attr 1 rdnMost at
 
   name : (at : ℕ) → Stops (nameP s at)
   unfolding nameP
-  name at = counted rdnP rdn 0 16 at
+  name at = counted rdnP rdn 0 nameMost at
 
   -- ---- a record
 
@@ -115,7 +116,9 @@ module _ (s : List ℕ) where
   strings : (at : ℕ) → Stops (stringsP s at)
   unfolding stringsP
   strings at =
-      then (spanP 1 20 s at) (span 1 20 at) (λ a e. then (spanP 1 32 s e) (span 1 32 e) (λ b f. then (spanP 1 32 s f) (span 1 32 f) (λ c g. goes _ _)))
+      then (spanP 1 serialMost s at) (span 1 serialMost at) (λ a e.
+      then (spanP 1 algorithmMost s e) (span 1 algorithmMost e) (λ b f.
+      then (spanP 1 algorithmMost s f) (span 1 algorithmMost f) (λ c g. goes _ _)))
 
   names : (at : ℕ) → Stops (namesP s at)
   unfolding namesP
@@ -128,9 +131,9 @@ module _ (s : List ℕ) where
   key-ids : (f at : ℕ) → Stops (keyIdsP f s at)
   unfolding keyIdsP
   key-ids f at =
-      then (optionP (flag 1 f) 64 s at) (option (flag 1 f) 64 at) (λ a e.
-      then (optionP (flag 2 f) 20 s e) (option (flag 2 f) 20 e) (λ b g.
-      then (optionP (flag 4 f) 64 s g) (option (flag 4 f) 64 g) (λ c h. goes _ _)))
+      then (optionP (flag 1 f) keyIdMost s at) (option (flag 1 f) keyIdMost at) (λ a e.
+      then (optionP (flag 2 f) serialMost s e) (option (flag 2 f) serialMost e) (λ b g.
+      then (optionP (flag 4 f) keyIdMost s g) (option (flag 4 f) keyIdMost g) (λ c h. goes _ _)))
 
   path-length : (f at : ℕ) → Stops (pathLengthP f s at)
   unfolding pathLengthP
@@ -138,11 +141,11 @@ module _ (s : List ℕ) where
 
   usage : (at : ℕ) → Stops (usageP s at)
   unfolding usageP
-  usage at = then (byteP s at) (byte at) (λ u e. judged (leb u 7) (goes _ _) wrong)
+  usage at = then (byteP s at) (byte at) (λ u e. judged (leb u usageMost) (goes _ _) wrong)
 
   dns-name : (at : ℕ) → Stops (dnsNameP s at)
   unfolding dnsNameP
-  dns-name at = string 1 253 at
+  dns-name at = string 1 dnsNameMost at
 
   listed : {A : Type 0} (most : ℕ) (p : List ℕ → ℕ → Parsed A) → ((at : ℕ) → Stops (p s at)) → (at : ℕ) → Stops (rowP most p s at)
   unfolding rowP
@@ -153,8 +156,8 @@ module _ (s : List ℕ) where
   extensions f at =
       then (keyIdsP f s at) (key-ids f at) (λ k e.
       then (pathLengthP f s e) (path-length f e) (λ l g.
-      then (usagesP s g) (listed 8 usageP usage g) (λ u h.
-      then (dnsNamesP s h) (listed 32 dnsNameP dns-name h) (λ d i. goes _ _))))
+      then (usagesP s g) (listed usagesMost usageP usage g) (λ u h.
+      then (dnsNamesP s h) (listed dnsNamesMost dnsNameP dns-name h) (λ d i. goes _ _))))
 
   a-record : (at : ℕ) → Stops (recordP s at)
   unfolding recordP
@@ -172,11 +175,11 @@ module _ (s : List ℕ) where
 
   roots : (at : ℕ) → Stops (rootsP s at)
   unfolding rootsP
-  roots at = then (countedP 0 32 recordP s at) (counted recordP a-record 0 32 at) (λ l e. goes _ _)
+  roots at = then (countedP 0 rootsMost recordP s at) (counted recordP a-record 0 rootsMost at) (λ l e. goes _ _)
 
   bundle : (at : ℕ) → Stops (bundleP s at)
   unfolding bundleP
-  bundle at = then (countedP 0 16 recordP s at) (counted recordP a-record 0 16 at) (λ l e. goes _ _)
+  bundle at = then (countedP 0 bundleMost recordP s at) (counted recordP a-record 0 bundleMost at) (λ l e. goes _ _)
 
   verdict : (at : ℕ) → Stops (verdictP s at)
   unfolding verdictP
@@ -200,7 +203,7 @@ module _ (s : List ℕ) where
   task : (at : ℕ) → Stops (taskP s at)
   unfolding taskP
   task at =
-      then (timesP s at) (times at) (λ t e. then (purposeP s e) (purpose e) (λ _ f. then (spanP 0 253 s f) (span 0 253 f) (λ h g. goes _ _)))
+      then (timesP s at) (times at) (λ t e. then (purposeP s e) (purpose e) (λ _ f. then (spanP 0 hostMost s f) (span 0 hostMost f) (λ h g. goes _ _)))
 
   card : (at : ℕ) → Stops (cardP s at)
   unfolding cardP
@@ -214,7 +217,7 @@ module _ (s : List ℕ) where
   pub file-stops : Stops (fileP s)
   unfolding fileP whole
   file-stops =
-      judged (leb (length s) 65535)
+      judged (leb (length s) fileMost)
       (then (cardP s 0) (card 0) (λ c e. judged (ltb e (length s)) (stops 9 (omega arith) (omega arith)) (goes _ _)))
       (stops 5 (omega arith) (omega arith))
 

@@ -24,9 +24,13 @@ cardP s at =
     after (taskP s h) (λ task i.
     got (record { roots = roots; bundle = bundle; verdicts = verdicts; task = task }) i)))))
 
--- at most 65,535 bytes, and the file ends where the task ends
+-- how many bytes a file has at most
+abbrev pub fileMost : ℕ
+fileMost = 65535
+
+-- not too long, and the file ends where the task ends
 unfoldable pub fileP : List ℕ → Parsed Card
-fileP s = cond (leb (length s) 65535) (whole cardP s) (stop 5)
+fileP s = cond (leb (length s) fileMost) (whole cardP s) (stop 5)
 
 -- what stands where nothing was read
 abbrev pub fresh-card : Card

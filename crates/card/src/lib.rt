@@ -2,8 +2,6 @@
 // nothing is copied out of it. Each section has its own crate below, and its types are handed on here. Who issued whom, and what is
 // believed, is left to the crates above.
 pub use certificates::Bundle;
-pub use certificates::BundlePlace;
-pub use certificates::RootPlace;
 pub use certificates::Roots;
 use certificates::bundle_after;
 use certificates::roots_after;
@@ -11,6 +9,8 @@ use fields::CountAt;
 use fields::Fault;
 use fields::Past;
 use fields::byte_at;
+pub use places::BundlePlace;
+pub use places::RootPlace;
 pub use task::Host;
 pub use task::Task;
 use task::task_after;
@@ -22,7 +22,7 @@ ghost use lib.Dec.{leb, ltb};
 ghost use lib.ListN.{length};
 ghost use Rattle.fields.specs.Fields.{got, stop, after};
 ghost use Rattle.fields.specs.Answers.{passed, passing, held};
-ghost use Rattle.card.specs.Card.{editionP, fileP, fresh-card};
+ghost use Rattle.card.specs.Card.{fileMost, editionP, fileP, fresh-card};
 ghost use Rattle.card.specs.Answers.{told, answer};
 
 // A card file that was read.
@@ -94,7 +94,7 @@ pub fn read(file: &[u8]) -> Reading
 
 // The place past the edition, in a file that is not too long.
 fn edition_past(file: &[u8]) -> Past
-    ensures { λ r. ⌜ passed r ≡ passing (cond (leb (length (now (file .entry))) 65535) (editionP (now (file .entry)) 0) (stop 5)) ⌝ }
+    ensures { λ r. ⌜ passed r ≡ passing (cond (leb (length (now (file .entry))) fileMost) (editionP (now (file .entry)) 0) (stop 5)) ⌝ }
 {
     if Card::MOST < file.len() {
         return Past::Stop(Fault::TooLong);

@@ -6,11 +6,12 @@ use mathlib.Core.List.{List}
 use native.Mathlib.Omega.{arith}
 use lib.ListN.{length, getD, replicate, length-append, length-replicate, List·getD-append}
 use borrow.Author.Tests.{lt-ltb}
+use Rattle.places.specs.Limits.{rootsMost, bundleMost}
 use Rattle.fields.specs.Fields.{got, countP, countedP, many}
 use Rattle.fields.proofs.After.{after-got, got-is}
 use Rattle.fields.proofs.Counts.{count-read}
 use Rattle.fields.proofs.Many.{many-length, many-nth}
-use Rattle.record.specs.Record.{recordP}
+use Rattle.record.specs.Record.{placeMost, recordP}
 use Rattle.record.specs.Fresh.{fresh}
 use Rattle.record.specs.declared.Record.{Record}
 use Rattle.record.proofs.Meaning.{RecordRead, record-read}
@@ -45,19 +46,19 @@ module _ (most : ℕ) (s : List ℕ) (at : ℕ) (l : List Record) (e : ℕ) wher
         few = omega arith;
       }
 
-pub roots-read : (s : List ℕ) (at : ℕ) (r : Roots) (e : ℕ) → rootsP s at ≡ got r e → RecordsRead 32 s (r .count) (r .records) e
+pub roots-read : (s : List ℕ) (at : ℕ) (r : Roots) (e : ℕ) → rootsP s at ≡ got r e → RecordsRead rootsMost s (r .count) (r .records) e
 unfolding rootsP
 roots-read s at r e h =
-    let read = after-got (countedP 0 32 recordP s at) _ h in
-    got-is (λ (r : Roots) e. RecordsRead 32 s (r .count) (r .records) e) (read .next)
-    (records-read 32 s at (read .value) (read .place) (read .first))
+    let read = after-got (countedP 0 rootsMost recordP s at) _ h in
+    got-is (λ (r : Roots) e. RecordsRead rootsMost s (r .count) (r .records) e) (read .next)
+    (records-read rootsMost s at (read .value) (read .place) (read .first))
 
-pub bundle-read : (s : List ℕ) (at : ℕ) (b : Bundle) (e : ℕ) → bundleP s at ≡ got b e → RecordsRead 16 s (b .count) (b .records) e
+pub bundle-read : (s : List ℕ) (at : ℕ) (b : Bundle) (e : ℕ) → bundleP s at ≡ got b e → RecordsRead bundleMost s (b .count) (b .records) e
 unfolding bundleP
 bundle-read s at b e h =
-    let read = after-got (countedP 0 16 recordP s at) _ h in
-    got-is (λ (b : Bundle) e. RecordsRead 16 s (b .count) (b .records) e) (read .next)
-    (records-read 16 s at (read .value) (read .place) (read .first))
+    let read = after-got (countedP 0 bundleMost recordP s at) _ h in
+    got-is (λ (b : Bundle) e. RecordsRead bundleMost s (b .count) (b .records) e) (read .next)
+    (records-read bundleMost s at (read .value) (read .place) (read .first))
 
 -- ---- by place
 
@@ -87,7 +88,7 @@ module _ (most : ℕ) (s : List ℕ) (count : ℕ) (records : List Record) (e : 
       let front = List·getD-append (t .front) (replicate (most - length (t .front)) fresh) fresh i within in
       rw (lt-ltb i count h) (ap (λ l. getD l i fresh) (t .placed) ∙ front)
 
-  pub record-stands : length s ≤ 65535 → (i : ℕ) → i < count → Stands s (recordOf count records i)
+  pub record-stands : length s ≤ placeMost → (i : ℕ) → i < count → Stands s (recordOf count records i)
   record-stands few i h =
       let within : i < length (t .front) = omega (arith, t .counted) in
       let n = many-nth recordP s fresh i (length (t .front)) (t .first) (t .front) e within (t .are) in

@@ -11,7 +11,7 @@ use lib.ListN.{length, getD}
 use borrow.Author.Tests.{ltb-true, ltb-false}
 use Rattle.fields.specs.Fields.{Parsed, got, many}
 use Rattle.fields.proofs.After.{after-got, got-is}
-use Rattle.record.specs.Record.{recordP}
+use Rattle.record.specs.Record.{placeMost, recordP}
 use Rattle.record.specs.Fresh.{fresh}
 use Rattle.record.specs.declared.Record.{Record}
 use Rattle.certificates.specs.Certificates.{recordOf}
@@ -75,7 +75,7 @@ module _ {A : Type 0} (p : List ℕ → ℕ → Parsed A) (s : List ℕ) (d : A)
 
 -- ---- a record's names
 
-record-inside : (s : List ℕ) → length s ≤ 65535 → (at : ℕ) (r : Record) (e : ℕ) → recordP s at ≡ got r e → Inside at (r .issuer) e
+record-inside : (s : List ℕ) → length s ≤ placeMost → (at : ℕ) (r : Record) (e : ℕ) → recordP s at ≡ got r e → Inside at (r .issuer) e
 record-inside s few at r e h =
     let t = record-read s few at r e h in
     let begins = record-begins s few at r e h in
@@ -88,7 +88,7 @@ record-inside s few at r e h =
 -- ---- places
 
 module _ (most : ℕ) (s : List ℕ) (count : ℕ) (records : List Record) (e : ℕ) (t : RecordsRead most s count records e) where
-  pub two-places : length s ≤ 65535 → (i j : ℕ) → i < count → j < count → recordOf count records i ≡ recordOf count records j → i ≡ j
+  pub two-places : length s ≤ placeMost → (i j : ℕ) → i < count → j < count → recordOf count records i ≡ recordOf count records j → i ≡ j
   two-places few i j v w same =
       let there : i < length (t .front) = omega (arith, t .counted) in
       let here : j < length (t .front) = omega (arith, t .counted) in

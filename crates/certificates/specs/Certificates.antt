@@ -5,6 +5,7 @@ use mathlib.Core.Bool.{cond}
 use mathlib.Core.List.{List, _++_}
 use lib.Dec.{leb, ltb}
 use lib.ListN.{length, getD, replicate}
+use Rattle.places.specs.Limits.{rootsMost, bundleMost}
 use Rattle.fields.specs.Fields.{Parsed, got, after, countedP}
 use Rattle.record.specs.Record.{recordP}
 use Rattle.record.specs.Fresh.{fresh}
@@ -17,26 +18,26 @@ unfoldable pub filled : ℕ → List Record → List Record
 filled most records = records ++ replicate (most - length records) fresh
 
 abbrev pub filledRoots : Parsed (List Record) → Parsed Roots
-filledRoots x = after x (λ l e. got (record { count = length l; records = filled 32 l }) e)
+filledRoots x = after x (λ l e. got (record { count = length l; records = filled rootsMost l }) e)
 
 abbrev pub filledBundle : Parsed (List Record) → Parsed Bundle
-filledBundle x = after x (λ l e. got (record { count = length l; records = filled 16 l }) e)
+filledBundle x = after x (λ l e. got (record { count = length l; records = filled bundleMost l }) e)
 
--- count byte 0..32, then records
+-- a count byte of no more than the roots' limit, then records
 unfoldable pub rootsP : List ℕ → ℕ → Parsed Roots
-rootsP s at = filledRoots (countedP 0 32 recordP s at)
+rootsP s at = filledRoots (countedP 0 rootsMost recordP s at)
 
--- count byte 0..16, then records
+-- a count byte of no more than the bundle's limit, then records
 unfoldable pub bundleP : List ℕ → ℕ → Parsed Bundle
-bundleP s at = filledBundle (countedP 0 16 recordP s at)
+bundleP s at = filledBundle (countedP 0 bundleMost recordP s at)
 
 -- ---- what stands where nothing was read
 
 abbrev pub fresh-roots : Roots
-fresh-roots = record { count = 0; records = replicate 32 fresh }
+fresh-roots = record { count = 0; records = replicate rootsMost fresh }
 
 abbrev pub fresh-bundle : Bundle
-fresh-bundle = record { count = 0; records = replicate 16 fresh }
+fresh-bundle = record { count = 0; records = replicate bundleMost fresh }
 
 -- ---- by place
 

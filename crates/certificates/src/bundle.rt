@@ -1,9 +1,9 @@
 // The bundle: a count and so many records, the leaf first.
-use crate::places::BundlePlace;
 use fields::CountAt;
 use fields::Fault;
 use fields::Past;
 use fields::count_at;
+use places::BundlePlace;
 use record::Record;
 use record::RecordAt;
 use record::record_at;
@@ -14,6 +14,7 @@ ghost use Rattle.fields.specs.Fields.{stop, after, many};
 ghost use Rattle.fields.specs.Answers.{number, passed, held, Emptied};
 ghost use Rattle.record.specs.Fresh.{fresh};
 ghost use Rattle.record.specs.Record.{recordP};
+ghost use Rattle.places.specs.Limits.{bundleMost};
 ghost use Rattle.certificates.specs.Certificates.{filledBundle, bundleP, fresh-bundle, recordOf, sizeOf};
 
 // The count stands last, so that the records are copied whole and aligned.
@@ -25,11 +26,11 @@ pub struct Bundle {
 impl Bundle {
     pub const LEAST: usize = 0;
 
-    pub const MOST: usize = 16;
+    pub const MOST: usize = BundlePlace::MOST;
 
     // No certificates.
     pub fn new() -> Bundle
-        ensures { λ r. ⌜ (r .count ≡ 0) × (r .records ≡ replicate 16 fresh) ⌝ }
+        ensures { λ r. ⌜ (r .count ≡ 0) × (r .records ≡ replicate bundleMost fresh) ⌝ }
     {
         let none = Record::new();
         Bundle {
@@ -40,7 +41,7 @@ impl Bundle {
 
     // How many there are: the count, but no more than there is room for.
     pub fn size(self) -> u8
-        ensures { λ r. ⌜ r ≡ sizeOf 16 (self .count) ⌝ }
+        ensures { λ r. ⌜ r ≡ sizeOf bundleMost (self .count) ⌝ }
     {
         if Bundle::MOST < self.count as usize {
             return Bundle::MOST as u8;
@@ -91,7 +92,7 @@ pub fn bundle_after(file: &[u8], past: Past) -> BundleRead
 
 // n records from the first on.
 fn bundle_records(file: &[u8], first: usize, n: usize) -> BundleRead
-    requires { ⌜ n ≤ 16 ⌝ }
+    requires { ⌜ n ≤ bundleMost ⌝ }
     ensures { λ r. ⌜ held (r .past) (r .bundle) ≡ filledBundle (many recordP n (now (file .entry)) first) ⌝ }
     ensures { λ r. ⌜ Emptied (r .past) (r .bundle) fresh-bundle ⌝ }
 {

@@ -1,15 +1,12 @@
-// The certificates of a card file: its two lists, roots and bundle, and the two kinds of place in them. Each list is read where the
+// The certificates of a card file: its two lists, roots and bundle. Each list is read where the
 // section before it ends; a list that was read is records, which are numbers and places in the file. The other sections are left to
 // the crates above.
 mod bundle;
-mod places;
 mod roots;
 
 pub use bundle::Bundle;
 pub use bundle::BundleRead;
 pub use bundle::bundle_after;
-pub use places::BundlePlace;
-pub use places::RootPlace;
 pub use roots::Roots;
 pub use roots::RootsRead;
 pub use roots::roots_after;

@@ -1,9 +1,9 @@
 // The roots: a count and so many records.
-use crate::places::RootPlace;
 use fields::CountAt;
 use fields::Fault;
 use fields::Past;
 use fields::count_at;
+use places::RootPlace;
 use record::Record;
 use record::RecordAt;
 use record::record_at;
@@ -14,6 +14,7 @@ ghost use Rattle.fields.specs.Fields.{stop, after, many};
 ghost use Rattle.fields.specs.Answers.{number, passed, held, Emptied};
 ghost use Rattle.record.specs.Fresh.{fresh};
 ghost use Rattle.record.specs.Record.{recordP};
+ghost use Rattle.places.specs.Limits.{rootsMost};
 ghost use Rattle.certificates.specs.Certificates.{filledRoots, rootsP, fresh-roots, recordOf, sizeOf};
 
 // The count stands last, so that the records are copied whole and aligned.
@@ -25,11 +26,11 @@ pub struct Roots {
 impl Roots {
     pub const LEAST: usize = 0;
 
-    pub const MOST: usize = 32;
+    pub const MOST: usize = RootPlace::MOST;
 
     // No roots.
     pub fn new() -> Roots
-        ensures { λ r. ⌜ (r .count ≡ 0) × (r .records ≡ replicate 32 fresh) ⌝ }
+        ensures { λ r. ⌜ (r .count ≡ 0) × (r .records ≡ replicate rootsMost fresh) ⌝ }
     {
         let none = Record::new();
         Roots {
@@ -40,7 +41,7 @@ impl Roots {
 
     // How many there are: the count, but no more than there is room for.
     pub fn size(self) -> u8
-        ensures { λ r. ⌜ r ≡ sizeOf 32 (self .count) ⌝ }
+        ensures { λ r. ⌜ r ≡ sizeOf rootsMost (self .count) ⌝ }
     {
         if Roots::MOST < self.count as usize {
             return Roots::MOST as u8;
@@ -91,7 +92,7 @@ pub fn roots_after(file: &[u8], past: Past) -> RootsRead
 
 // n records from the first on.
 fn root_records(file: &[u8], first: usize, n: usize) -> RootsRead
-    requires { ⌜ n ≤ 32 ⌝ }
+    requires { ⌜ n ≤ rootsMost ⌝ }
     ensures { λ r. ⌜ held (r .past) (r .roots) ≡ filledRoots (many recordP n (now (file .entry)) first) ⌝ }
     ensures { λ r. ⌜ Emptied (r .past) (r .roots) fresh-roots ⌝ }
 {

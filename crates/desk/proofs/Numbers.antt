@@ -5,7 +5,7 @@ use Prim.Native.Nat.{ℕ, zero, suc, _+_, _<_}
 use native.Mathlib.Nat.{le-of-suc-le-suc, not-suc-le-zero}
 use native.Mathlib.Numerals.{add-one}
 use lib.ListN.{length, take, drop, getD, set}
-use Rattle.certificates.specs.declared.places.BundlePlace.{BundlePlace}
+use Rattle.places.specs.declared.BundlePlace.{BundlePlace}
 use Rattle.desk.specs.Plain.{numbers}
 
 number-suc : (ps : List BundlePlace) (d : List ℕ) (i : ℕ) (z : BundlePlace) → i < length ps → i < length d

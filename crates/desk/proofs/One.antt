@@ -4,8 +4,8 @@ use mathlib.Core.List.{List}
 use mathlib.Core.Path.{_≡_, sym, ap, _∙_}
 use Prim.Native.Nat.{ℕ}
 use Rattle.card.specs.Content.{contentP}
-use Rattle.steps.specs.declared.Answer.{Answer}
-use Rattle.steps.proofs.Unique.{Same}
+use Rattle.reply.specs.declared.Answer.{Answer}
+use Rattle.reply.proofs.Unique.{Same}
 use Rattle.search.specs.Search.{Search, Pause}
 use Rattle.search.proofs.One as below
 use Rattle.desk.specs.declared.plain.Plain.{Plain}

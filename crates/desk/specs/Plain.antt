@@ -2,9 +2,9 @@
 use mathlib.Core.List.{List, map}
 use mathlib.Core.Path.{_≡_}
 use Prim.Native.Nat.{ℕ}
-use Rattle.certificates.specs.declared.places.BundlePlace.{BundlePlace}
-use Rattle.steps.specs.Answer.{told}
-use Rattle.steps.specs.declared.Answer.{Answer}
+use Rattle.places.specs.declared.BundlePlace.{BundlePlace}
+use Rattle.reply.specs.Answer.{told}
+use Rattle.reply.specs.declared.Answer.{Answer}
 use Rattle.desk.specs.declared.plain.Plain.{Plain}
 
 -- the places' numbers

@@ -1,10 +1,9 @@
 // An answer in plain numbers.
-use card::Bundle;
-use card::BundlePlace;
-use steps::Answer;
-use steps::Reply;
+use places::BundlePlace;
+use reply::Answer;
+use reply::Reply;
 ghost use mathlib.Core.Path.{_≡_};
-ghost use Rattle.steps.specs.Answer.{told};
+ghost use Rattle.reply.specs.Answer.{told};
 ghost use Rattle.desk.specs.Plain.{numbers, plain};
 
 // The reply's number, root and steps, and the path beside it: its length and its places, 0 past them.
@@ -14,7 +13,7 @@ pub struct Plain {
     pub number: u8,
     pub root: u8,
     pub length: u8,
-    pub path: [u8; Bundle::MOST],
+    pub path: [u8; BundlePlace::MOST],
 }
 
 impl Plain {
@@ -43,9 +42,7 @@ fn number_of(reply: Reply) -> u8
         Reply::Accepted { root: _, steps: _ } => 0,
         Reply::Refused { steps: _ } => 1,
         Reply::Exhausted { steps: _ } => 2,
-        Reply::EmptyChain => 3,
-        Reply::Unread(fault) => fault.number(),
-        Reply::NoRoom => 10,
+        Reply::Error(number) => number,
     }
 }
 
@@ -57,9 +54,7 @@ fn root_of(reply: Reply) -> u8
         Reply::Accepted { root, steps: _ } => root.0,
         Reply::Refused { steps: _ } => 0,
         Reply::Exhausted { steps: _ } => 0,
-        Reply::EmptyChain => 0,
-        Reply::Unread(_) => 0,
-        Reply::NoRoom => 0,
+        Reply::Error(_) => 0,
     }
 }
 
@@ -71,19 +66,17 @@ fn steps_of(reply: Reply) -> u64
         Reply::Accepted { root: _, steps } => steps,
         Reply::Refused { steps } => steps,
         Reply::Exhausted { steps } => steps,
-        Reply::EmptyChain => 0,
-        Reply::Unread(_) => 0,
-        Reply::NoRoom => 0,
+        Reply::Error(_) => 0,
     }
 }
 
 // A path's places as bytes.
-fn numbers_of(places: [BundlePlace; Bundle::MOST]) -> [u8; Bundle::MOST]
+fn numbers_of(places: [BundlePlace; BundlePlace::MOST]) -> [u8; BundlePlace::MOST]
     ensures { λ r. ⌜ r ≡ numbers places ⌝ }
 {
-    let mut bytes = [0u8; Bundle::MOST];
+    let mut bytes = [0u8; BundlePlace::MOST];
     let mut j = 0;
-    while j < Bundle::MOST {
+    while j < BundlePlace::MOST {
         let place = places[j];
         bytes[j] = place.0;
         j += 1;

@@ -13,8 +13,8 @@ use Rattle.text.specs.Normal.{normal, normalFrom}
 use Rattle.text.specs.Wildcard.{starDot, underStar, matchName}
 use Rattle.keys.specs.Address.{masked, holds, ipAddrInRange}
 use Rattle.names.specs.Names.{Attr}
-use Rattle.same.specs.Same.{sameAttr}
-use Rattle.subtree.specs.Subtree.{rdnHasName, isSubtreeRdn}
+use Rattle.same.specs.Same.{sameAttr, rdnHasName}
+use Rattle.subtree.specs.Subtree.{isSubtreeRdn}
 
 -- a text's bytes
 abbrev pub ascii : String → List ℕ

@@ -1,13 +1,9 @@
-// A path judged in a whole card file: the card is read, who issued whom is filled, each certificate is judged once, and the path's standing
-// goes on place by place.
+// A path judged in a whole card file: the card is read, its facts are judged once, and the path's standing goes on place by place.
 use crate::say;
 use card::Bundle;
 use card::Card;
 use card::Outcome;
 use card::read;
-use issuing::Issuing;
-use issuing::issuers_of;
-use issuing::who_issued;
 use policy::Judged;
 use policy::Seats;
 use policy::Standing;
@@ -19,6 +15,7 @@ use policy::seats_of;
 use rows::Row;
 use rows::lowest;
 use rows::shared;
+use rules::Time;
 
 // lowest_root|PATH|CARD
 pub(crate) fn lowest_root(label: &[u8], path: &[u8], file: &[u8]) {
@@ -34,16 +31,10 @@ pub(crate) fn lowest_root(label: &[u8], path: &[u8], file: &[u8]) {
 // The lowest root by which a path qualifies; as many as a row has room for where there is none. An empty path has none, nor has one with a
 // byte that is no place.
 fn top_of(path: &[u8], file: &[u8], card: Card) -> u8 {
-    let issuing = who_issued(file, card);
-    let by_roots = issuing.roots;
-    top_judged(
-        path,
-        issuing,
-        judge(file, card.task.now, card, issuers_of(by_roots)),
-    )
+    top_judged(path, judge(file, Time::at(card.task.now), card))
 }
 
-fn top_judged(path: &[u8], issuing: Issuing, judged: Judged) -> u8 {
+fn top_judged(path: &[u8], judged: Judged) -> u8 {
     let n = path.len();
     if n == 0 {
         return Row::PLACES;
@@ -52,7 +43,7 @@ fn top_judged(path: &[u8], issuing: Issuing, judged: Judged) -> u8 {
         return Row::PLACES;
     }
     let last = path[n - 1];
-    let issued = issuing.roots;
+    let issued = judged.issuing.roots;
     let seats = seats_of(judged);
     let rows = seats.rows;
     lowest(shared(

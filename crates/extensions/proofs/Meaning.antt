@@ -10,9 +10,9 @@ use Rattle.fields.specs.declared.string.Span.{Span}
 use Rattle.fields.proofs.After.{after-got, got-is}
 use Rattle.fields.proofs.Counts.{byte-few}
 use Rattle.fields.proofs.Strings.{SpanRead, span-read}
-use Rattle.lists.specs.Lists.{usageP, usagesP, dnsNameP, dnsNamesP}
+use Rattle.lists.specs.Lists.{usageP, usagesP, dnsNameP, dnsNamesP, usageMost, usagesMost, dnsNameMost, dnsNamesMost}
 use Rattle.lists.proofs.Meaning.{RowRead, row-read, row-each, usage-few, dns-name-bounded}
-use Rattle.extensions.specs.Extensions.{flag, optionP, keyIdsP, pathLengthP, extensionsP}
+use Rattle.extensions.specs.Extensions.{flag, optionP, keyIdsP, pathLengthP, extensionsP, keyIdMost, serialMost}
 use Rattle.extensions.specs.declared.KeyIds.{KeyIds}
 use Rattle.extensions.specs.declared.Extensions.{Extensions}
 
@@ -21,9 +21,9 @@ use Rattle.extensions.specs.declared.Extensions.{Extensions}
 pub record KeyIdsRead (flags : ℕ) (s : List ℕ) (at : ℕ) (k : KeyIds) (e : ℕ) : Type 0 where
   pub serial-at : ℕ
   pub subject-at : ℕ
-  pub authority : flag 1 flags ≡ true → SpanRead 1 64 s at (k .authority) serial-at
-  pub authority-serial : flag 2 flags ≡ true → SpanRead 1 20 s serial-at (k .«authority_serial») subject-at
-  pub subject : flag 4 flags ≡ true → SpanRead 1 64 s subject-at (k .subject) e
+  pub authority : flag 1 flags ≡ true → SpanRead 1 keyIdMost s at (k .authority) serial-at
+  pub authority-serial : flag 2 flags ≡ true → SpanRead 1 serialMost s serial-at (k .«authority_serial») subject-at
+  pub subject : flag 4 flags ≡ true → SpanRead 1 keyIdMost s subject-at (k .subject) e
 
 option-read : (present : Bool) (most : ℕ) (s : List ℕ) (at : ℕ) (p : Span) (e : ℕ)
     → optionP present most s at ≡ got p e → present ≡ true → SpanRead 1 most s at p e
@@ -34,16 +34,16 @@ option-read false most s at p e h t = let z : _≡_ {A = ℕ} 0 1 = cc in absurd
 key-ids-read : (flags : ℕ) (s : List ℕ) (at : ℕ) (k : KeyIds) (e : ℕ) → keyIdsP flags s at ≡ got k e → KeyIdsRead flags s at k e
 unfolding keyIdsP
 key-ids-read flags s at k e h =
-    let authority = after-got (optionP (flag 1 flags) 64 s at) _ h in
-    let serial = after-got (optionP (flag 2 flags) 20 s (authority .place)) _ (authority .next) in
-    let subject = after-got (optionP (flag 4 flags) 64 s (serial .place)) _ (serial .next) in
+    let authority = after-got (optionP (flag 1 flags) keyIdMost s at) _ h in
+    let serial = after-got (optionP (flag 2 flags) serialMost s (authority .place)) _ (authority .next) in
+    let subject = after-got (optionP (flag 4 flags) keyIdMost s (serial .place)) _ (serial .next) in
     got-is (KeyIdsRead flags s at) (subject .next)
     (record {
       serial-at = authority .place;
       subject-at = serial .place;
-      authority = option-read (flag 1 flags) 64 s at _ _ (authority .first);
-      authority-serial = option-read (flag 2 flags) 20 s _ _ _ (serial .first);
-      subject = option-read (flag 4 flags) 64 s _ _ _ (subject .first);
+      authority = option-read (flag 1 flags) keyIdMost s at _ _ (authority .first);
+      authority-serial = option-read (flag 2 flags) serialMost s _ _ _ (serial .first);
+      subject = option-read (flag 4 flags) keyIdMost s _ _ _ (subject .first);
     })
 
 path-length-few : (flags : ℕ) (s : List ℕ) (at n e : ℕ) → pathLengthP flags s at ≡ got n e → n ≤ 255
@@ -61,11 +61,11 @@ pub record ExtensionsRead (flags : ℕ) (s : List ℕ) (at : ℕ) (x : Extension
   pub dns-at : ℕ
   pub key-ids : KeyIdsRead flags s at (x .«key_ids») path-at
   pub path-length : x .«path_length» ≤ 255
-  pub usages : RowRead 8 usageP s (x .usages) dns-at
-  pub dns-names : RowRead 32 dnsNameP s (x .«dns_names») e
-  pub each-usage : (i : ℕ) → i < x .usages .count → getD (usages .things) i 0 ≤ 7
+  pub usages : RowRead usagesMost usageP s (x .usages) dns-at
+  pub dns-names : RowRead dnsNamesMost dnsNameP s (x .«dns_names») e
+  pub each-usage : (i : ℕ) → i < x .usages .count → getD (usages .things) i 0 ≤ usageMost
   pub each-dns-name : (i : ℕ) → i < x .«dns_names» .count
-      → (1 ≤ length (getD (dns-names .things) i [])) × (length (getD (dns-names .things) i []) ≤ 253)
+      → (1 ≤ length (getD (dns-names .things) i [])) × (length (getD (dns-names .things) i []) ≤ dnsNameMost)
 
 pub extensions-read : (flags : ℕ) (s : List ℕ) (at : ℕ) (x : Extensions) (e : ℕ) → extensionsP flags s at ≡ got x e → ExtensionsRead flags s at x e
 unfolding extensionsP
@@ -74,8 +74,8 @@ extensions-read flags s at x e h =
     let path = after-got (pathLengthP flags s (keys .place)) _ (keys .next) in
     let usages = after-got (usagesP s (path .place)) _ (path .next) in
     let names = after-got (dnsNamesP s (usages .place)) _ (usages .next) in
-    let u = row-read 8 usageP s _ _ _ (usages .first) in
-    let n = row-read 32 dnsNameP s _ _ _ (names .first) in
+    let u = row-read usagesMost usageP s _ _ _ (usages .first) in
+    let n = row-read dnsNamesMost dnsNameP s _ _ _ (names .first) in
     got-is (ExtensionsRead flags s at) (names .next)
     (record {
       path-at = keys .place;
@@ -84,6 +84,6 @@ extensions-read flags s at x e h =
       path-length = path-length-few flags s _ _ _ (path .first);
       usages = u;
       dns-names = n;
-      each-usage = row-each 8 usageP s (λ v. v ≤ 7) (usage-few s) _ _ u 0;
-      each-dns-name = row-each 32 dnsNameP s (λ v. (1 ≤ length v) × (length v ≤ 253)) (dns-name-bounded s) _ _ n [];
+      each-usage = row-each usagesMost usageP s (λ v. v ≤ usageMost) (usage-few s) _ _ u 0;
+      each-dns-name = row-each dnsNamesMost dnsNameP s (λ v. (1 ≤ length v) × (length v ≤ dnsNameMost)) (dns-name-bounded s) _ _ n [];
     })

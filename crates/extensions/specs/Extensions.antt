@@ -4,7 +4,7 @@ use Prim.Native.Nat.{ℕ, _/_, _%_}
 use mathlib.Core.Bool.{Bool, cond}
 use mathlib.Core.List.{List}
 use lib.Dec.{eqb}
-use Rattle.fields.specs.Fields.{Parsed, got, after, byteP, spanP}
+use Rattle.fields.specs.Fields.{Parsed, got, after, byteP, spanP, nowhere}
 use Rattle.fields.specs.declared.string.Span.{Span}
 use Rattle.lists.specs.Lists.{usagesP, dnsNamesP}
 use Rattle.extensions.specs.declared.KeyIds.{KeyIds}
@@ -14,20 +14,24 @@ use Rattle.extensions.specs.declared.Extensions.{Extensions}
 unfoldable pub flag : ℕ → ℕ → Bool
 flag k flags = eqb (flags / k % 2) 1
 
--- the span of a part that is not there
-abbrev pub nowhere : Span
-nowhere = record { start = 0; end = 0 }
-
 -- a string of 1 to so many bytes where its flag is set
 unfoldable pub optionP : Bool → ℕ → List ℕ → ℕ → Parsed Span
 optionP present most s at = cond present (spanP 1 most s at) (got nowhere at)
 
+-- the most bytes of a key id
+abbrev pub keyIdMost : ℕ
+keyIdMost = 64
+
+-- the most bytes of a serial, the authority's and a record's own
+abbrev pub serialMost : ℕ
+serialMost = 20
+
 -- authority key id 1..64 if flag 1; authority serial 1..20 if flag 2; subject key id 1..64 if flag 4
 unfoldable pub keyIdsP : ℕ → List ℕ → ℕ → Parsed KeyIds
 keyIdsP flags s at =
-    after (optionP (flag 1 flags) 64 s at) (λ akid e.
-    after (optionP (flag 2 flags) 20 s e) (λ aserial f.
-    after (optionP (flag 4 flags) 64 s f) (λ skid g.
+    after (optionP (flag 1 flags) keyIdMost s at) (λ akid e.
+    after (optionP (flag 2 flags) serialMost s e) (λ aserial f.
+    after (optionP (flag 4 flags) keyIdMost s f) (λ skid g.
     got (record { authority = akid; «authority_serial» = aserial; subject = skid }) g)))
 
 -- a path length byte if flag 16

@@ -160,7 +160,7 @@ fn option_at(file: &[u8], at: usize, present: bool, most: usize) -> OptionAt
         }
     }
     OptionAt::Got {
-        span: Span { start: 0, end: 0 },
+        span: Span::NOWHERE,
         next: at,
     }
 }

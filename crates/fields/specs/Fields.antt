@@ -39,6 +39,10 @@ spanP least most s at =
 unfoldable pub bytesOf : Span → List ℕ → List ℕ
 bytesOf p s = cond (leb (p .start) (p .end) && leb (p .end) (length s)) (take (p .end - p .start) (drop (p .start) s)) []
 
+-- the span of a part that is not there
+abbrev pub nowhere : Span
+nowhere = record { start = 0; end = 0 }
+
 -- a string
 unfoldable pub stringP : ℕ → ℕ → List ℕ → ℕ → Parsed (List ℕ)
 stringP least most s at = after (spanP least most s at) (λ p e. got (bytesOf p s) e)

@@ -12,6 +12,11 @@ pub struct Span {
     pub end: usize,
 }
 
+impl Span {
+    // Of a part that is not there.
+    pub const NOWHERE: Span = Span { start: 0, end: 0 };
+}
+
 pub enum StringAt {
     Got(Span),
     Stop(Fault),

@@ -9,6 +9,7 @@ use native.Mathlib.Omega.{arith}
 use lib.Dec.{eqb, ltb}
 use lib.ListN.{length, getD}
 use borrow.Author.Tests.{ltb-true, ltb-false, le-ltb, le-leb}
+use Rattle.places.specs.Limits.{rootsMost, bundleMost}
 use Rattle.record.specs.Certificate.{certificateOf}
 use Rattle.record.specs.Fresh.{fresh}
 use Rattle.record.specs.declared.Record.{Record}
@@ -68,24 +69,34 @@ no-subject c i j h =
     no-column true b e = rw e
     no-column false b e = refl
 
+-- a verdict on two places, and two records that stand in the file and say the certificates there
+pair-agrees : (s : List ℕ) (c : Content) (i : Issuer) (j : ℕ) (issuer subject : Record) → Stands s issuer → Stands s subject
+    → certificateAt c i ≡ certificateOf issuer s → certificateAt c (bundled j) ≡ certificateOf subject s
+    → (verdict : Bool) → verdict ≡ signed c i j → verdict && likelyIssuedAt s issuer subject ≡ issued c i j
+unfolding issued
+pair-agrees s c i j issuer subject v w is told verdict e =
+    ap₂ _&&_ e (likely-read s issuer subject v w ∙ sym (ap₂ likelyIssued is told)) ∙ and-swap (signed c i j) _
+
 -- ---- a list of rows
 
--- the rows of a test, for so many issuers and subjects, hold what is wanted at every two places if the test does below the two counts
--- and nothing is wanted past them
-module _ (test : ℕ → ℕ → Bool) (want : ℕ → ℕ → Bool) (issuers subjects : ℕ) where
-  rows-agree : issuers ≤ 64 → ((i j : ℕ) → issuers ≤ i → want i j ≡ false) → ((i j : ℕ) → subjects ≤ j → want i j ≡ false)
-      → ((i j : ℕ) → i < issuers → j < subjects → test i j ≡ want i j)
-      → (i j : ℕ) → has i (getD (listing 16 subjects (λ j. rowOf (λ i. test i j) issuers)) j 0) ≡ want i j
+-- the rows of a test, for so many issuers of a kind and so many subjects, hold who issued whom at every two places if the test tells it
+-- below the two counts and no one is there past them
+module _ (c : Content) (kind : ℕ → Issuer) (test : ℕ → ℕ → Bool) (most issuers subjects : ℕ) where
+  rows-agree : issuers ≤ 64 → ((i : ℕ) → issuers ≤ i → there c (kind i) ≡ false) → length (c .bundle) ≤ subjects
+      → ((i j : ℕ) → i < issuers → j < subjects → test i j ≡ issued c (kind i) j)
+      → (i j : ℕ) → has i (getD (listing most subjects (λ j. rowOf (λ i. test i j) issuers)) j 0) ≡ issued c (kind i) j
   rows-agree room past beyond below i j =
-      ap (has i) (listing-at (λ j. rowOf (λ i. test i j) issuers) 16 subjects j) ∙ by-subject (ltb j subjects) refl
+      ap (has i) (listing-at (λ j. rowOf (λ i. test i j) issuers) most subjects j) ∙ by-subject (ltb j subjects) refl
     where
-      by-issuer : j < subjects → (b : Bool) → ltb i issuers ≡ b → b && test i j ≡ want i j
+      by-issuer : j < subjects → (b : Bool) → ltb i issuers ≡ b → b && test i j ≡ issued c (kind i) j
       by-issuer h true e = below i j (ltb-true i issuers e) h
-      by-issuer h false e = sym (past i j (ltb-false i issuers e))
+      by-issuer h false e = sym (no-issuer c (kind i) j (past i (ltb-false i issuers e)))
 
-      by-subject : (b : Bool) → ltb j subjects ≡ b → has i (cond b (rowOf (λ i. test i j) issuers) 0) ≡ want i j
+      by-subject : (b : Bool) → ltb j subjects ≡ b → has i (cond b (rowOf (λ i. test i j) issuers) 0) ≡ issued c (kind i) j
       by-subject true e = has-row (λ i. test i j) issuers i room ∙ by-issuer (ltb-true j subjects e) (ltb i issuers) refl
-      by-subject false e = has-none i ∙ sym (beyond i j (ltb-false j subjects e))
+      by-subject false e =
+          let over : length (c .bundle) ≤ j = omega (arith, ltb-false j subjects e) in
+          has-none i ∙ sym (no-subject c (kind i) j over)
 
 -- ---- on a card that was read
 
@@ -110,33 +121,26 @@ module _ (s : List ℕ) (c : Card) (e : ℕ) (t : CardRead s c e) where
 
   bundle-pair : (i j : ℕ) → i < c .bundle .count → j < c .bundle .count
       → bundleIssuedAt s (c .bundle) (c .verdicts) i j ≡ issued (contentOf c s) (bundled i) j
-  unfolding bundleIssuedAt issued
+  unfolding bundleIssuedAt
   bundle-pair i j h k =
-      ap₂ _&&_ (bundle-signed s c e t i j)
-      (likely-read s _ _ (bundled-stands s c e t i h) (bundled-stands s c e t j k)
-      ∙ sym (ap₂ likelyIssued (bundled-is i h) (bundled-is j k)))
-      ∙ and-swap (signed (contentOf c s) (bundled i) j) _
+      pair-agrees s (contentOf c s) (bundled i) j _ _ (bundled-stands s c e t i h) (bundled-stands s c e t j k) (bundled-is i h) (bundled-is j k)
+      _ (bundle-signed s c e t i j)
 
   root-pair : (i j : ℕ) → i < c .roots .count → j < c .bundle .count
       → rootIssuedAt s (c .roots) (c .verdicts) (recordOf (c .bundle .count) (c .bundle .records) j) i j ≡ issued (contentOf c s) (root i) j
-  unfolding rootIssuedAt issued
+  unfolding rootIssuedAt
   root-pair i j h k =
-      ap₂ _&&_ (root-signed s c e t i j)
-      (likely-read s _ _ (root-stands s c e t i h) (bundled-stands s c e t j k)
-      ∙ sym (ap₂ likelyIssued (root-is i h) (bundled-is j k)))
-      ∙ and-swap (signed (contentOf c s) (root i) j) _
+      pair-agrees s (contentOf c s) (root i) j _ _ (root-stands s c e t i h) (bundled-stands s c e t j k) (root-is i h) (bundled-is j k)
+      _ (root-signed s c e t i j)
 
   pub bundle-row-agrees : (i j : ℕ) → has i (getD (bundleRows s (c .bundle) (c .verdicts)) j 0) ≡ issued (contentOf c s) (bundled i) j
   unfolding bundleRows
   bundle-row-agrees i j =
       let count = bundle-counted s c e t in
       let few = bundle-few s c e t in
-      rw (size-is 16 (c .bundle .count) (omega arith))
-      (rows-agree (bundleIssuedAt s (c .bundle) (c .verdicts)) (λ i. issued (contentOf c s) (bundled i)) (c .bundle .count) (c .bundle .count)
-      (omega arith)
-      (λ i j h. no-issuer (contentOf c s) (bundled i) j (le-ltb i _ (omega arith)))
-      (λ i j h. no-subject (contentOf c s) (bundled i) j (omega arith))
-      bundle-pair i j)
+      rw (size-is bundleMost (c .bundle .count) (omega arith))
+      (rows-agree (contentOf c s) bundled (bundleIssuedAt s (c .bundle) (c .verdicts)) bundleMost (c .bundle .count) (c .bundle .count)
+      (omega arith) (λ i h. le-ltb i _ (omega arith)) (omega arith) bundle-pair i j)
 
   pub root-row-agrees : (i j : ℕ)
       → has i (getD (rootRows s (c .roots) (c .bundle) (c .verdicts)) j 0) ≡ issued (contentOf c s) (root i) j
@@ -146,10 +150,7 @@ module _ (s : List ℕ) (c : Card) (e : ℕ) (t : CardRead s c e) where
       let few = bundle-few s c e t in
       let roots = roots-counted s c e t in
       let roots-most = roots-few s c e t in
-      rw (size-is 16 (c .bundle .count) (omega arith), size-is 32 (c .roots .count) (omega arith))
-      (rows-agree (λ i j. rootIssuedAt s (c .roots) (c .verdicts) (recordOf (c .bundle .count) (c .bundle .records) j) i j)
-      (λ i. issued (contentOf c s) (root i)) (c .roots .count) (c .bundle .count)
-      (omega arith)
-      (λ i j h. no-issuer (contentOf c s) (root i) j (le-ltb i _ (omega arith)))
-      (λ i j h. no-subject (contentOf c s) (root i) j (omega arith))
-      root-pair i j)
+      rw (size-is bundleMost (c .bundle .count) (omega arith), size-is rootsMost (c .roots .count) (omega arith))
+      (rows-agree (contentOf c s) root (λ i j. rootIssuedAt s (c .roots) (c .verdicts) (recordOf (c .bundle .count) (c .bundle .records) j) i j)
+      bundleMost (c .roots .count) (c .bundle .count)
+      (omega arith) (λ i h. le-ltb i _ (omega arith)) (omega arith) root-pair i j)

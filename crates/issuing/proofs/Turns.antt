@@ -57,23 +57,23 @@ module _ {s : List ℕ} {cert : Record} {signed : ℕ → Bool} {at : ℕ → Re
 -- ---- a row for each subject
 
 -- the rows of the subjects below j, of n, and zeros to the last place
-pub record RowsTo (f : ℕ → ℕ) (n : ℕ) (rows : List ℕ) (j : ℕ) : Type 0 where
+pub record RowsTo (most : ℕ) (f : ℕ → ℕ) (n : ℕ) (rows : List ℕ) (j : ℕ) : Type 0 where
   pub within : j ≤ n
-  pub few : n ≤ 16
-  pub are : rows ≡ listing 16 j f
+  pub few : n ≤ most
+  pub are : rows ≡ listing most j f
 
-module _ {f : ℕ → ℕ} {n : ℕ} where
-  pub rows-start : (count : ℕ) → n ≡ sizeOf 16 count → RowsTo f n (replicate 16 0) 0
-  rows-start count e = record { within = omega arith; few = omega (arith, e, size-within 16 count); are = sym (listing-none f 16) }
+module _ {most : ℕ} {f : ℕ → ℕ} {n : ℕ} where
+  pub rows-start : (count : ℕ) → n ≡ sizeOf most count → RowsTo most f n (replicate most 0) 0
+  rows-start count e = record { within = omega arith; few = omega (arith, e, size-within most count); are = sym (listing-none f most) }
 
-  module _ {rows : List ℕ} {j : ℕ} (t : RowsTo f n rows j) where
-    pub rows-turn : {row : ℕ} → j < n → row ≡ f j → RowsTo f n (set rows j row) (j + 1)
+  module _ {rows : List ℕ} {j : ℕ} (t : RowsTo most f n rows j) where
+    pub rows-turn : {row : ℕ} → j < n → row ≡ f j → RowsTo most f n (set rows j row) (j + 1)
     rows-turn {row} h e =
         record {
           within = omega arith;
           few = t .few;
-          are = rw (t .are, e) (listing-next f 16 j (omega (arith, t .few)));
+          are = rw (t .are, e) (listing-next f most j (omega (arith, t .few)));
         }
 
-    pub rows-whole : {m : ℕ} → n ≤ j → n ≡ m → rows ≡ listing 16 m f
-    rows-whole {m} h e = let k : j ≡ m = omega (arith, t .within) in t .are ∙ ap (λ (i : ℕ). listing 16 i f) k
+    pub rows-whole : {m : ℕ} → n ≤ j → n ≡ m → rows ≡ listing most m f
+    rows-whole {m} h e = let k : j ≡ m = omega (arith, t .within) in t .are ∙ ap (λ (i : ℕ). listing most i f) k

@@ -3,6 +3,7 @@
 use Prim.Native.Nat.{ℕ}
 use mathlib.Core.Bool.{Bool, true, _&&_}
 use mathlib.Core.List.{List, [], _∷_}
+use Rattle.places.specs.Limits.{rootsMost, bundleMost}
 use Rattle.same.specs.Answers.{sameNames}
 use Rattle.record.specs.Parts.{headOf, keyIdsOf, issuerSpan, subjectSpan}
 use Rattle.record.specs.Certificate.{certificateOf}
@@ -40,13 +41,13 @@ rootIssuedAt s r v subject i j = rootSigned v s i j && likelyIssuedAt s (recordO
 
 -- a row for each subject: which bundle places issued it
 unfoldable pub bundleRows : List ℕ → Bundle → Verdicts → List ℕ
-bundleRows s b v = listing 16 (sizeOf 16 (b .count)) (λ j. rowOf (λ i. bundleIssuedAt s b v i j) (sizeOf 16 (b .count)))
+bundleRows s b v = listing bundleMost (sizeOf bundleMost (b .count)) (λ j. rowOf (λ i. bundleIssuedAt s b v i j) (sizeOf bundleMost (b .count)))
 
 -- a row for each subject: which roots issued it
 unfoldable pub rootRows : List ℕ → Roots → Bundle → Verdicts → List ℕ
 rootRows s r b v =
-    listing 16 (sizeOf 16 (b .count)) (λ j.
-    rowOf (λ i. rootIssuedAt s r v (recordOf (b .count) (b .records) j) i j) (sizeOf 32 (r .count)))
+    listing bundleMost (sizeOf bundleMost (b .count)) (λ j.
+    rowOf (λ i. rootIssuedAt s r v (recordOf (b .count) (b .records) j) i j) (sizeOf rootsMost (r .count)))
 
 -- those that issued any: they stand in one of the rows
 unfoldable pub issuersOf : List ℕ → ℕ

@@ -10,6 +10,7 @@ use card::Verdicts;
 use rows::with;
 ghost use mathlib.Core.Bool.{_&&_};
 ghost use mathlib.Core.Path.{_≡_};
+ghost use Rattle.places.specs.Limits.{rootsMost, bundleMost};
 ghost use Rattle.record.specs.declared.Record.{Record};
 ghost use Rattle.certificates.specs.Certificates.{recordOf, sizeOf};
 ghost use Rattle.verdicts.specs.Verdicts.{bundleSigned, rootSigned};
@@ -24,7 +25,7 @@ pub(crate) fn bundle_row(
     subject: BundlePlace,
     claim: Claim,
 ) -> u64
-    ensures { λ r. ⌜ ((cert : Record) → claim ≡ claimOf (now (file .entry)) cert → r ≡ rowOf (λ i. bundleSigned verdicts (now (file .entry)) i (subject .0) && likelyIssuedAt (now (file .entry)) (recordOf (bundle .count) (bundle .records) i) cert) (sizeOf 16 (bundle .count))) ⌝ }
+    ensures { λ r. ⌜ ((cert : Record) → claim ≡ claimOf (now (file .entry)) cert → r ≡ rowOf (λ i. bundleSigned verdicts (now (file .entry)) i (subject .0) && likelyIssuedAt (now (file .entry)) (recordOf (bundle .count) (bundle .records) i) cert) (sizeOf bundleMost (bundle .count))) ⌝ }
 {
     let n = bundle.size();
     let mut row: u64 = 0;
@@ -48,7 +49,7 @@ pub(crate) fn root_row(
     subject: BundlePlace,
     claim: Claim,
 ) -> u64
-    ensures { λ r. ⌜ ((cert : Record) → claim ≡ claimOf (now (file .entry)) cert → r ≡ rowOf (λ i. rootSigned verdicts (now (file .entry)) i (subject .0) && likelyIssuedAt (now (file .entry)) (recordOf (roots .count) (roots .records) i) cert) (sizeOf 32 (roots .count))) ⌝ }
+    ensures { λ r. ⌜ ((cert : Record) → claim ≡ claimOf (now (file .entry)) cert → r ≡ rowOf (λ i. rootSigned verdicts (now (file .entry)) i (subject .0) && likelyIssuedAt (now (file .entry)) (recordOf (roots .count) (roots .records) i) cert) (sizeOf rootsMost (roots .count))) ⌝ }
 {
     let n = roots.size();
     let mut row: u64 = 0;

@@ -12,7 +12,7 @@ use Rattle.fields.proofs.After.{after-got}
 use Rattle.fields.proofs.Ends.{passing-stops, passing-got}
 use Rattle.fields.proofs.Many.{many-nth}
 use Rattle.fields.proofs.Strings.{SpanRead, span-read}
-use Rattle.lists.specs.Lists.{dnsSpanP, dnsNameP, itemP}
+use Rattle.lists.specs.Lists.{dnsSpanP, dnsNameP, itemP, dnsNameMost}
 use Rattle.lists.specs.declared.Row.{Row}
 use Rattle.lists.proofs.Meaning.{RowRead}
 
@@ -49,7 +49,7 @@ pub record Spelt (x : Parsed Span) (s : List ℕ) (name : List ℕ) : Type 0 whe
   pub at : ℕ
   pub span : Span
   pub is : x ≡ got span (span .end)
-  pub read : SpanRead 1 253 s at span (span .end)
+  pub read : SpanRead 1 dnsNameMost s at span (span .end)
   pub bytes : bytesOf span s ≡ name
 
 -- a DNS name by its span
@@ -57,7 +57,7 @@ dns-name-spelt : (s : List ℕ) (at : ℕ) (name : List ℕ) (e : ℕ) → dnsNa
 unfolding dnsNameP stringP
 dns-name-spelt s at name e h =
     let t = after-got (dnsSpanP s at) _ h in
-    let read = span-read 1 253 s at (t .value) (t .place) (t .first) in
+    let read = span-read 1 dnsNameMost s at (t .value) (t .place) (t .first) in
     let same : t .place ≡ t .value .end = sym (read .ends) in
     record {
       at = at;

@@ -11,7 +11,7 @@ use Rattle.fields.proofs.After.{after-got, judged-got, got-is}
 use Rattle.fields.proofs.Counts.{count-read}
 use Rattle.fields.proofs.Many.{many-length, many-nth}
 use Rattle.fields.proofs.Strings.{span-read}
-use Rattle.lists.specs.Lists.{usageP, dnsNameP, rowP}
+use Rattle.lists.specs.Lists.{usageP, dnsNameP, rowP, usageMost, dnsNameMost}
 use Rattle.lists.specs.declared.Row.{Row}
 
 pub record RowRead {A : Type 0} (most : ℕ) (p : List ℕ → ℕ → Parsed A) (s : List ℕ) (r : Row) (e : ℕ) : Type 0 where
@@ -41,17 +41,17 @@ module _ {A : Type 0} (most : ℕ) (p : List ℕ → ℕ → Parsed A) (s : List
       let n = many-nth p s d i (r .count) (r .first) (t .things) e l (t .are) in
       h (n .place) (getD (t .things) i d) (n .past) (n .is)
 
-pub usage-few : (s : List ℕ) (at u e : ℕ) → usageP s at ≡ got u e → u ≤ 7
+pub usage-few : (s : List ℕ) (at u e : ℕ) → usageP s at ≡ got u e → u ≤ usageMost
 unfolding usageP
 usage-few s at u e h =
     let byte = after-got (byteP s at) _ h in
-    let judged = judged-got (leb (byte .value) 7) _ 8 (byte .next) in
-    got-is (λ v _. v ≤ 7) (judged .1) (omega (arith, leb-true))
+    let judged = judged-got (leb (byte .value) usageMost) _ 8 (byte .next) in
+    got-is (λ v _. v ≤ usageMost) (judged .1) (omega (arith, leb-true))
 
 -- a DNS name that was read has 1 to 253 bytes
-pub dns-name-bounded : (s : List ℕ) (at : ℕ) (n : List ℕ) (e : ℕ) → dnsNameP s at ≡ got n e → (1 ≤ length n) × (length n ≤ 253)
+pub dns-name-bounded : (s : List ℕ) (at : ℕ) (n : List ℕ) (e : ℕ) → dnsNameP s at ≡ got n e → (1 ≤ length n) × (length n ≤ dnsNameMost)
 unfolding dnsNameP stringP
 dns-name-bounded s at n e h =
-    let span = after-got (spanP 1 253 s at) _ h in
-    let read = span-read 1 253 s at _ _ (span .first) in
-    got-is (λ n _. (1 ≤ length n) × (length n ≤ 253)) (span .next) (read .enough, read .few)
+    let span = after-got (spanP 1 dnsNameMost s at) _ h in
+    let read = span-read 1 dnsNameMost s at _ _ (span .first) in
+    got-is (λ n _. (1 ≤ length n) × (length n ≤ dnsNameMost)) (span .next) (read .enough, read .few)

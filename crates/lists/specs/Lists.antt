@@ -8,16 +8,34 @@ use Rattle.fields.specs.Fields.{Parsed, got, stop, after, countP, byteP, spanP,
 use Rattle.fields.specs.declared.string.Span.{Span}
 use Rattle.lists.specs.declared.Row.{Row}
 
+-- ---- limits
+
+-- the last usage, and the most of them
+abbrev pub usageMost : ℕ
+usageMost = 7
+
+abbrev pub usagesMost : ℕ
+usagesMost = 8
+
+-- the most bytes of a DNS name, and the most of them
+abbrev pub dnsNameMost : ℕ
+dnsNameMost = 253
+
+abbrev pub dnsNamesMost : ℕ
+dnsNamesMost = 32
+
+-- ---- what stands at a place
+
 -- a usage: a byte 0..7, judged when it is read
 unfoldable pub usageP : List ℕ → ℕ → Parsed ℕ
-usageP s at = after (byteP s at) (λ u e. cond (leb u 7) (got u e) (stop 8))
+usageP s at = after (byteP s at) (λ u e. cond (leb u usageMost) (got u e) (stop 8))
 
 -- a DNS name: 1..253 bytes; where they stand, and the bytes
 abbrev pub dnsSpanP : List ℕ → ℕ → Parsed Span
-dnsSpanP = spanP 1 253
+dnsSpanP = spanP 1 dnsNameMost
 
 unfoldable pub dnsNameP : List ℕ → ℕ → Parsed (List ℕ)
-dnsNameP = stringP 1 253
+dnsNameP = stringP 1 dnsNameMost
 
 -- how many things a list has, and where the first one stands
 unfoldable pub rowP : {A : Type 0} → ℕ → (List ℕ → ℕ → Parsed A) → List ℕ → ℕ → Parsed Row
@@ -28,11 +46,11 @@ rowP most p s at =
 
 -- 0..8 usages
 abbrev pub usagesP : List ℕ → ℕ → Parsed Row
-usagesP = rowP 8 usageP
+usagesP = rowP usagesMost usageP
 
 -- 0..32 DNS names
 abbrev pub dnsNamesP : List ℕ → ℕ → Parsed Row
-dnsNamesP = rowP 32 dnsNameP
+dnsNamesP = rowP dnsNamesMost dnsNameP
 
 -- thing i of a list, by q, where those before it are read by p; a bad count where the list is shorter
 unfoldable pub itemP : {A B : Type 0} → (List ℕ → ℕ → Parsed A) → (List ℕ → ℕ → Parsed B) → Row → ℕ → List ℕ → Parsed B

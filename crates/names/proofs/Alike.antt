@@ -13,7 +13,7 @@ use Rattle.fields.specs.declared.string.Span.{Span}
 use Rattle.fields.proofs.After.{after-got, judged-got, got-is}
 use Rattle.fields.proofs.Counts.{count-read}
 use Rattle.fields.proofs.Strings.{bytes-within}
-use Rattle.names.specs.Names.{Attr, attrP, rdnP, nameP}
+use Rattle.names.specs.Names.{Attr, attrP, rdnP, nameP, oidMost, valueMost, rdnMost, nameMost}
 
 -- so many bytes are the same from two places on
 abbrev pub Agree : List ℕ → ℕ → ℕ → ℕ → Type 0
@@ -149,17 +149,17 @@ module _ (s : List ℕ) where
   attr-local : Local s (attrP s)
   unfolding attrP
   attr-local =
-      after-local s (stringP 1 16 s) (λ o e. after (stringP 0 255 s e) (λ v f. got (record { oid = o; value = v }) f)) (string-local 1 16 s) (λ o.
-      after-local s (stringP 0 255 s) (λ v f. got (record { oid = o; value = v }) f) (string-local 0 255 s) (λ v.
+      after-local s (stringP 1 oidMost s) (λ o e. after (stringP 0 valueMost s e) (λ v f. got (record { oid = o; value = v }) f)) (string-local 1 oidMost s) (λ o.
+      after-local s (stringP 0 valueMost s) (λ v f. got (record { oid = o; value = v }) f) (string-local 0 valueMost s) (λ v.
       got-local s (record { oid = o; value = v })))
 
   rdn-local : Local s (rdnP s)
   unfolding rdnP
-  rdn-local = counted-local s attrP attr-local 1 4
+  rdn-local = counted-local s attrP attr-local 1 rdnMost
 
   pub name-local : Local s (nameP s)
   unfolding nameP
-  name-local = counted-local s rdnP rdn-local 0 16
+  name-local = counted-local s rdnP rdn-local 0 nameMost
 
   -- two names whose bytes are the same
   pub bytes-alike : (a b : ℕ) (x y : List (List Attr)) (e f : ℕ) → nameP s a ≡ got x e → nameP s b ≡ got y f → e ≤ length s → f ≤ length s

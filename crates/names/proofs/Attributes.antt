@@ -8,7 +8,7 @@ use Rattle.fields.specs.Answers.{number}
 use Rattle.fields.specs.declared.fault.Fault.{Fault}
 use Rattle.fields.specs.declared.string.Span.{Span}
 use Rattle.fields.proofs.Strings.{span-read, string-got, string-stops}
-use Rattle.names.specs.Names.{attrP}
+use Rattle.names.specs.Names.{attrP, oidMost, valueMost}
 use Rattle.names.specs.Answers.{spansP, attributed, attrOf, Short}
 use Rattle.names.specs.declared.read.Attribute.{Attribute}
 use Rattle.names.specs.declared.read.AttributeAt.{AttributeAt}
@@ -25,28 +25,28 @@ module _ (s : List ℕ) (at : ℕ) where
   attr-by (got a e) = AttrRead s at a
   attr-by (stop r) = attrP s at ≡ stop r
 
-  by-value : (o : Span) (e : ℕ) → spanP 1 16 s at ≡ got o e → (y : Parsed Span) → spanP 0 255 s e ≡ y
+  by-value : (o : Span) (e : ℕ) → spanP 1 oidMost s at ≡ got o e → (y : Parsed Span) → spanP 0 valueMost s e ≡ y
       → attr-by (after y (λ v f. got (record { oid = o; value = v }) f))
   unfolding attr-by attrP
   by-value o e h (got v f) k =
-      let t = span-read 0 255 s e v f k in
+      let t = span-read 0 valueMost s e v f k in
       record {
-        is = rw (string-got 1 16 s at o e h, string-got 0 255 s e v f k, t .ends);
+        is = rw (string-got 1 oidMost s at o e h, string-got 0 valueMost s e v f k, t .ends);
         short = t .few;
       }
-  by-value o e h (stop r) k = rw (string-got 1 16 s at o e h, string-stops 0 255 s e r k)
+  by-value o e h (stop r) k = rw (string-got 1 oidMost s at o e h, string-stops 0 valueMost s e r k)
 
-  by-oid : (x : Parsed Span) → spanP 1 16 s at ≡ x
-      → attr-by (after x (λ o e. after (spanP 0 255 s e) (λ v f. got (record { oid = o; value = v }) f)))
+  by-oid : (x : Parsed Span) → spanP 1 oidMost s at ≡ x
+      → attr-by (after x (λ o e. after (spanP 0 valueMost s e) (λ v f. got (record { oid = o; value = v }) f)))
   unfolding attr-by attrP
   by-oid (got o e) h = by-value o e h _ refl
-  by-oid (stop r) h = rw (string-stops 1 16 s at r h)
+  by-oid (stop r) h = rw (string-stops 1 oidMost s at r h)
 
-  attr-told : attr-by (spansP 1 16 0 255 s at)
+  attr-told : attr-by (spansP 1 oidMost 0 valueMost s at)
   unfolding spansP
   attr-told = by-oid _ refl
 
-  module _ (r : AttributeAt) (h : attributed r ≡ spansP 1 16 0 255 s at) where
+  module _ (r : AttributeAt) (h : attributed r ≡ spansP 1 oidMost 0 valueMost s at) where
     pub attr-read : (a : Attribute) → r ≡ Got a → AttrRead s at a
     unfolding attr-by
     attr-read a e = rw (← ap attributed (sym e) ∙ h) at attr-told

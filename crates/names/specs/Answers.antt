@@ -4,7 +4,7 @@ use mathlib.Core.List.{List}
 use lib.ListN.{length}
 use Rattle.fields.specs.Fields.{Parsed, got, stop, after, spanP, bytesOf}
 use Rattle.fields.specs.Answers.{number}
-use Rattle.names.specs.Names.{Attr}
+use Rattle.names.specs.Names.{Attr, valueMost}
 use Rattle.names.specs.declared.read.Attribute.{Attribute}
 use Rattle.names.specs.declared.read.AttributeAt.{AttributeAt}
 use Rattle.names.specs.declared.read.AttributeAt.the-variants as attribute
@@ -39,4 +39,4 @@ attrOf a s = record { oid = bytesOf (a .oid) s; value = bytesOf (a .value) s }
 
 -- its value is no longer than a value may be
 abbrev pub Short : Attribute → List ℕ → Type 0
-Short a s = length (bytesOf (a .value) s) ≤ 255
+Short a s = length (bytesOf (a .value) s) ≤ valueMost

@@ -6,6 +6,7 @@ use Prim.Native.Nat.{ℕ, zero, suc, _+_, _-_, _*_, _≤_, _<_}
 use native.Mathlib.Nat.{eq-zero-or-pos}
 use native.Mathlib.Omega.{arith}
 use lib.ListN.{length, length-append, length-map}
+use Rattle.places.specs.Limits.{bundleMost}
 use Rattle.order.specs.Listing.{_among_}
 use Rattle.order.specs.Paths.{Places, Simple, Listing}
 use Rattle.order.specs.Slots.{formula, slotsOf}
@@ -74,7 +75,7 @@ module _ (g : Places) where
   after-bound some (ps, l, w) = omega (arith, waiting-bound some l w)
 
   -- as many slots as the table says are enough
-  pub after-fits : g .size ≤ 16 → {k : ℕ} {ws : List (List ℕ)} → After g k ws → length ws ≤ slotsOf (g .size)
+  pub after-fits : g .size ≤ bundleMost → {k : ℕ} {ws : List (List ℕ)} → After g k ws → length ws ≤ slotsOf (g .size)
   after-fits h {k} {ws} a = ⊎-elim
       (λ e. rw (after-unique g a ([], none-listing g e, none-waiting [] k (omega arith))) (omega arith))
       (λ some. rw (slots-formula (g .size) some h) (after-bound some a))

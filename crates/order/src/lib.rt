@@ -1,10 +1,11 @@
 // Simple paths, their order, a path's rank, and what waits after k steps: definitions in specs/ and theorems in proofs/. The one
 // function answers how many slots the waiting paths need; finding a path is left to the search.
+use places::BundlePlace;
 ghost use mathlib.Core.Path.{_≡_};
 ghost use Rattle.order.specs.Slots.{slotsOf};
 
-// The printed table: the slots that n certificates need, for n = 0..16.
-const SLOTS: [u8; 17] = [
+// The printed table: the slots that n certificates need.
+const SLOTS: [u8; BundlePlace::MOST + 1] = [
     0,
     1,
     1,

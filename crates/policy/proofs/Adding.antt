@@ -1,12 +1,13 @@
 -- One place more. `begun-is`, `over-stands`, `over-lacks`, `added-full`, `added-is`: what the code answers, branch by branch. `standing-more`: how a
 -- path stands is how it stood before its last place, and that place added; `over-more`: its roots are those over that place then. Assumes
 -- nothing.
-use Prim.Native.Nat.{ℕ, _+_, _≤_, _<_}
+use Prim.Native.Nat.{ℕ, _+_, _-_, _≤_, _<_}
 use mathlib.Core.Bool.{true, false}
 use mathlib.Core.List.{List, [], _∷_, _++_}
 use mathlib.Core.Path.{_≡_, refl}
 use borrow.Author.Tests.{lt-ltb, le-ltb}
 use lib.ListN.{getD}
+use Rattle.places.specs.Limits.{bundleMost}
 use Rattle.rows.specs.Rows.{has, left, common, below}
 use Rattle.order.proofs.Simple.{last-snoc}
 use Rattle.policy.specs.Standing.{placesOut, rootsOut, begun, over, added, addedAll, standing, above, rootsOver}
@@ -28,14 +29,14 @@ module _ (seats : List ℕ) where
   begun-is p r = rw (p, r)
 
   module _ (s : Standing) (i : ℕ) where
-    pub added-full : 15 ≤ s .below → record { places = 0; roots = 0; below = s .below } ≡ added seats s i
+    pub added-full : bundleMost - 1 ≤ s .below → record { places = 0; roots = 0; below = s .below } ≡ added seats s i
     unfolding added
-    added-full h = rw (le-ltb (s .below) 15 h)
+    added-full h = rw (le-ltb (s .below) (bundleMost - 1) h)
 
-    pub added-is : {places roots : ℕ} → s .below < 15 → places ≡ left (s .places) (placesOut seats (s .below))
+    pub added-is : {places roots : ℕ} → s .below < bundleMost - 1 → places ≡ left (s .places) (placesOut seats (s .below))
         → roots ≡ left (over s i) (rootsOut seats (s .below + 1)) → record { places = places; roots = roots; below = s .below + 1 } ≡ added seats s i
     unfolding added
-    added-is h p r = rw (lt-ltb (s .below) 15 h, p, r)
+    added-is h p r = rw (lt-ltb (s .below) (bundleMost - 1) h, p, r)
 
   added-last : (s : Standing) (l : List ℕ) (i : ℕ) → addedAll seats s (l ++ i ∷ []) ≡ added seats (addedAll seats s l) i
   unfolding addedAll

@@ -1,6 +1,5 @@
 -- A loop that judges those of a row, the lowest of the rest each turn: it begins with all of them left (`asking-starts`), a turn judges the
--- lowest, which is sound (`asking-joins`) or not (`asking-passes`), and it ends where the rest is past the places that there are
--- (`asking-ends`). Assumes nothing.
+-- lowest (`asking-turn`), and it ends where the rest is past the places that there are (`asking-ends`). Assumes nothing.
 use Prim.Native.Nat.{ℕ, _+_, _-_, _<_, _≤_}
 use mathlib.Core.Bool.{Bool, true, false, cond, not, _&&_, and-true, and-false, false≢true}
 use mathlib.Core.List.{List}
@@ -12,7 +11,7 @@ use lib.ListN.{set, replicate}
 use Rattle.rows.specs.Rows.{has, joined, left, lowest, rowOf, listing}
 use Rattle.rows.proofs.Places.{has-dropped, lowest-least}
 use Rattle.rows.proofs.Taking.{lowest-there}
-use Rattle.policy.proofs.Places.{Judging, judging-starts, judging-skips, judging-joins, judging-passes, judging-ends}
+use Rattle.policy.proofs.Places.{Judging, judging-starts, judging-skips, judging-turn, judging-ends}
 
 -- of those asked for, the ones from m on are left
 abbrev From : ℕ → ℕ → ℕ → Type 0
@@ -105,14 +104,12 @@ module _ (asked : ℕ) (test : ℕ → Bool) (limit : ℕ → ℕ) (most : ℕ) 
       here : Judging testAsked limitAsked most sound limits i
       here = reached i (from-before asked rest (a .next) (a .remain) i first place) (omega arith) (omega arith)
 
-      onward : (r : ℕ) (l : List ℕ) → Judging testAsked limitAsked most r l (i + 1) → Asking r l (left rest (joined 0 i)) n
-      onward r l j =
-          record { next = i + 1; within = omega arith; remain = from-next asked rest (a .next) (a .remain) i first place; judging = j }
-
-      pub asking-joins : (l r : ℕ) → l ≡ limit i → test i ≡ true → r ≡ joined sound i → Asking r (set limits i l) (left rest (joined 0 i)) n
-      asking-joins l r e t q =
-          onward r (set limits i l) (judging-joins testAsked limitAsked most sound limits i here (omega arith) l r (rw yes e) (rw yes t) q)
-
-      pub asking-passes : (l r : ℕ) → l ≡ limit i → test i ≡ false → r ≡ sound → Asking r (set limits i l) (left rest (joined 0 i)) n
-      asking-passes l r e t q =
-          onward r (set limits i l) (judging-passes testAsked limitAsked most sound limits i here (omega arith) l r (rw yes e) (rw yes t) q)
+      pub asking-turn : (l r : ℕ) (b : Bool) → l ≡ limit i → test i ≡ b → r ≡ cond b (joined sound i) sound
+          → Asking r (set limits i l) (left rest (joined 0 i)) n
+      asking-turn l r b e t q =
+          record {
+            next = i + 1;
+            within = omega arith;
+            remain = from-next asked rest (a .next) (a .remain) i first place;
+            judging = judging-turn testAsked limitAsked most sound limits i here (omega arith) l r b (rw yes e) (rw yes t) q;
+          }

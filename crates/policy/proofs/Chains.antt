@@ -10,6 +10,7 @@ use Rattle.text.specs.Each.{all}
 use Rattle.text.proofs.Each.{both-true}
 use Rattle.record.specs.Certificate.{Certificate}
 use Rattle.rules.specs.Rules.{inDate, wellFormed, handled, authority, allows, forServers, forHost}
+use Rattle.rules.specs.declared.rules.Time.{Time}
 use Rattle.policy.specs.Policy.{Chain, pathLengths, policy}
 use Rattle.policy.specs.Sound.{betweenSound, topSound}
 
@@ -76,18 +77,18 @@ module _ (t : Certificate) where
 -- ---- those between
 
 -- each is sound, and allows as many as stand between it and the leaf
-unfoldable pub allBetween : ℕ → ℕ → List Certificate → Bool
+unfoldable pub allBetween : Time → ℕ → List Certificate → Bool
 allBetween time n [] = true
 allBetween time n (c ∷ l) = betweenSound time c && allows n c && allBetween time (n + 1) l
 
-record Between (time n : ℕ) (l : List Certificate) : Type 0 where
+record Between (time : Time) (n : ℕ) (l : List Certificate) : Type 0 where
   dates : all (inDate time) l ≡ true
   forms : all wellFormed l ≡ true
   handles : all handled l ≡ true
   authorities : all authority l ≡ true
   lengths : pathLengths n l ≡ true
 
-module _ (time : ℕ) where
+module _ (time : Time) where
   between-told : (n : ℕ) (l : List Certificate) → allBetween time n l ≡ true → Between time n l
   unfolding allBetween betweenSound pathLengths
   between-told n [] h = record { dates = refl; forms = refl; handles = refl; authorities = refl; lengths = refl }
@@ -123,17 +124,17 @@ module _ (time : ℕ) where
 -- ---- the chain
 
 -- all that is asked of the leaf
-unfoldable pub leafSound : ℕ → List ℕ → Certificate → Bool
+unfoldable pub leafSound : Time → List ℕ → Certificate → Bool
 leafSound time host c = inDate time c && wellFormed c && handled c && forServers c && forHost host c
 
 -- leaf, those between, and the root with as many below it
-unfoldable pub bySeat : ℕ → List ℕ → Chain → Bool
+unfoldable pub bySeat : Time → List ℕ → Chain → Bool
 bySeat time host ch =
     leafSound time host (ch .leaf)
     && allBetween time 0 (ch .between)
     && (topSound time (ch .top) && allows (length (ch .between)) (ch .top))
 
-module _ (time : ℕ) (host : List ℕ) (leaf : Certificate) (between : List Certificate) (top : Certificate) where
+module _ (time : Time) (host : List ℕ) (leaf : Certificate) (between : List Certificate) (top : Certificate) where
   abbrev chain : Chain
   chain = record { leaf = leaf; between = between; top = top }
 

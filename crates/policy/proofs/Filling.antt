@@ -3,7 +3,7 @@
 -- (`marking-passes`), and at the end the rows are filled (`marking-ends`).
 -- Both parts: each of a row has a limit (`limited`), and the two parts filled are the seats (`seats-filled`); `second-lent`,
 -- `second-back` for lending the second. Assumes nothing.
-use Prim.Native.Nat.{ℕ, zero, suc, _+_, _≤_, _<_}
+use Prim.Native.Nat.{ℕ, zero, suc, _+_, _-_, _≤_, _<_}
 use mathlib.Core.Bool.{Bool, true, false, not, _&&_, _||_, and-true, and-false, and-not-self, or-false, false≢true}
 use mathlib.Core.List.{List, _++_, append-nil}
 use mathlib.Core.Path.{_≡_, refl, sym, ap, _∙_}
@@ -12,6 +12,7 @@ use borrow.Author.Tests.{ltb-true, ltb-false, eqb-true, eqb-false, lt-ltb, le-lt
 use lib.Dec.{eqb, ltb}
 use lib.ListN.{length, getD, set, replicate, take, drop, length-set, List·getD-append}
 use lib.Seq.{getD-set-same, getD-set-other, getD-append-add, take-at, drop-at}
+use Rattle.places.specs.Limits.{rootsMost, bundleMost}
 use Rattle.rows.specs.Rows.{has, joined, left, common, lowest, below}
 use Rattle.rows.proofs.Listing.{getD-zeros}
 use Rattle.rows.proofs.Places.{has-none, has-joined, has-left, has-common, has-dropped, lowest-least}
@@ -25,13 +26,13 @@ use Rattle.policy.specs.declared.judged.Judged.{Judged}
 
 -- those that are not among the rest are marked, and in the first row those that may stand nowhere
 pub record Marking (sound : ℕ) (limits : List ℕ) (rest : ℕ) (rows : List ℕ) : Type 0 where
-  pub size : length rows ≡ 16
+  pub size : length rows ≡ bundleMost
   pub kept : (j : ℕ) → has j rest ≡ true → has j sound ≡ true
   pub nowhere : (j : ℕ) → has j (getD rows 0 0) ≡ falls sound limits 0 j
-  pub marks : (n j : ℕ) → n < 15 → has j (getD rows (suc n) 0) ≡ has j sound && not (has j rest) && eqb (getD limits j 0) n
+  pub marks : (n j : ℕ) → n < bundleMost - 1 → has j (getD rows (suc n) 0) ≡ has j sound && not (has j rest) && eqb (getD limits j 0) n
 
 module _ (sound : ℕ) (limits : List ℕ) where
-  pub marking-starts : (rows : List ℕ) → rows ≡ replicate 16 0 → Marking sound limits sound (set rows 0 (left (below 64) sound))
+  pub marking-starts : (rows : List ℕ) → rows ≡ replicate bundleMost 0 → Marking sound limits sound (set rows 0 (left (below 64) sound))
   unfolding falls
   marking-starts rows e =
       rw e
@@ -39,7 +40,7 @@ module _ (sound : ℕ) (limits : List ℕ) where
         size = refl;
         kept = λ j h. h;
         nowhere = λ j. has-left j (below 64) sound ∙ rw (has-below j 64 (omega arith));
-        marks = λ n j h. ap (has j) (getD-zeros 15 n) ∙ has-none j ∙ rw and-not-self;
+        marks = λ n j h. ap (has j) (getD-zeros (bundleMost - 1) n) ∙ has-none j ∙ rw and-not-self;
       })
 
   module _ (rest : ℕ) (rows : List ℕ) (m : Marking sound limits rest rows) where
@@ -56,7 +57,7 @@ module _ (sound : ℕ) (limits : List ℕ) where
             go true e true f = let k = ltb-true j (length limits) f in lowest-least rest .below j (omega arith) (omega arith)
             go true e false f = absurd (false≢true (sym (l .inside j (ltb-false j (length limits) f)) ∙ m .kept j e))
 
-        out : (n i : ℕ) → n < 16 → has i (getD rows n 0) ≡ falls sound limits n i
+        out : (n i : ℕ) → n < bundleMost → has i (getD rows n 0) ≡ falls sound limits n i
         out zero i k = m .nowhere i
         out (suc n) i k = m .marks n i (omega arith) ∙ rw (none i, and-true)
 
@@ -78,7 +79,7 @@ module _ (sound : ℕ) (limits : List ℕ) where
           go true b e = refl
           go false b e = e
 
-      pub marking-passes : 15 ≤ getD limits i 0 → Marking sound limits (left rest (joined 0 i)) rows
+      pub marking-passes : bundleMost - 1 ≤ getD limits i 0 → Marking sound limits (left rest (joined 0 i)) rows
       marking-passes h =
           record {
             size = m .size;
@@ -89,7 +90,7 @@ module _ (sound : ℕ) (limits : List ℕ) where
                 m .marks n j k ∙ (rw (far, and-false, or-false) at (marked-more n j));
           }
 
-      pub marking-marks : getD limits i 0 < 15
+      pub marking-marks : getD limits i 0 < bundleMost - 1
           → Marking sound limits (left rest (joined 0 i)) (set rows (getD limits i 0 + 1) (joined (getD rows (getD limits i 0 + 1) 0) i))
       marking-marks h =
           record {
@@ -121,21 +122,21 @@ limited sound n limits e h =
       inside = λ i k. has-common i sound (below n) ∙ rw (has-below i n h, le-ltb i n (omega arith), and-false);
     }
 
-pub seats-filled : (j : Judged) (places roots : List ℕ) → Filled (common (j .between .sound) (below 16)) (j .between .limits) places
-    → Filled (common (j .above .sound) (below 32)) (j .above .limits) roots → Seated j (places ++ roots)
+pub seats-filled : (j : Judged) (places roots : List ℕ) → Filled (common (j .between .sound) (below bundleMost)) (j .between .limits) places
+    → Filled (common (j .above .sound) (below rootsMost)) (j .above .limits) roots → Seated j (places ++ roots)
 seats-filled j places roots p q =
     record {
       places = λ n i h. ap (has i) (List·getD-append places roots 0 n (omega (arith, p .size))) ∙ p .out n i h;
       roots = λ n i h. ap (has i) (after n) ∙ q .out n i h;
     }
   where
-    after : (n : ℕ) → getD (places ++ roots) (16 + n) 0 ≡ getD roots n 0
+    after : (n : ℕ) → getD (places ++ roots) (bundleMost + n) 0 ≡ getD roots n 0
     after n = ap (λ (k : ℕ). getD (places ++ roots) (k + n) 0) (sym (p .size)) ∙ getD-append-add places roots n 0
 
 -- what the second part is lent, and what it leaves of the whole
-module _ (places : List ℕ) (size : length places ≡ 16) where
-  pub second-lent : take 16 (drop 16 (places ++ replicate 16 0)) ≡ replicate 16 0
-  second-lent = ap (take 16) (drop-at places (replicate 16 0) 16 size)
+module _ (places : List ℕ) (size : length places ≡ bundleMost) where
+  pub second-lent : take bundleMost (drop bundleMost (places ++ replicate bundleMost 0)) ≡ replicate bundleMost 0
+  second-lent = ap (take bundleMost) (drop-at places (replicate bundleMost 0) bundleMost size)
 
-  pub second-back : (roots : List ℕ) → take 16 (places ++ replicate 16 0) ++ (roots ++ drop 16 (drop 16 (places ++ replicate 16 0))) ≡ places ++ roots
-  second-back roots = rw (take-at places (replicate 16 0) 16 size, drop-at places (replicate 16 0) 16 size, append-nil)
+  pub second-back : (roots : List ℕ) → take bundleMost (places ++ replicate bundleMost 0) ++ (roots ++ drop bundleMost (drop bundleMost (places ++ replicate bundleMost 0))) ≡ places ++ roots
+  second-back roots = rw (take-at places (replicate bundleMost 0) bundleMost size, drop-at places (replicate bundleMost 0) bundleMost size, append-nil)

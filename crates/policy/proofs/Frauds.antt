@@ -7,7 +7,7 @@ use mathlib.Core.Option.{none}
 use Rattle.text.specs.Bytes.{same}
 use Rattle.extensions.specs.Extensions.{flag}
 use Rattle.record.specs.Certificate.{Certificate}
-use Rattle.rules.specs.Rules.{inDate, wellFormed, handled, authority, allows, forServers, forHost}
+use Rattle.rules.specs.Rules.{at, inDate, wellFormed, handled, authority, allows, forServers, forHost}
 use Rattle.policy.specs.Policy.{pathLengths, policy}
 
 -- a certificate of v3 with these flags, and nothing else in it
@@ -33,6 +33,6 @@ plain flags =
 
 -- a leaf with a key usage that may not sign certificates passes under a root, though as an issuer it would not
 pub key-usage-asked-of-the-leaf : (authority (plain 32) ≡ false)
-    × (policy 0 [] (record { leaf = plain 32; between = []; top = plain 8 }) ≡ true)
-unfolding policy pathLengths inDate wellFormed handled authority allows forServers forHost flag same
+    × (policy (at 0) [] (record { leaf = plain 32; between = []; top = plain 8 }) ≡ true)
+unfolding policy pathLengths at inDate wellFormed handled authority allows forServers forHost flag same
 key-usage-asked-of-the-leaf = (refl, refl)

@@ -1,5 +1,5 @@
 -- What the tests of one certificate come to: what is asked of it between leaf and root, as the root and as the leaf, by the first test
--- that fails, and the roots above by the leaf. Assumes nothing.
+-- that fails, and the roots above by the leaf; and the facts of a card by their parts (`judged-is`). Assumes nothing.
 use Prim.Native.Nat.{ℕ}
 use mathlib.Core.Bool.{Bool, true, false, _&&_, and-true, and-false}
 use mathlib.Core.List.{List}
@@ -12,13 +12,16 @@ use Rattle.extensions.specs.declared.Extensions.{Extensions}
 use Rattle.record.specs.declared.Record.{Record}
 use Rattle.certificates.specs.Certificates.{recordOf}
 use Rattle.card.specs.declared.Card.{Card}
+use Rattle.issuing.specs.Records.{bundleRows, rootRows, issuersOf}
 use Rattle.rules.specs.Rules.{inDate, wellFormed, handled, authority}
 use Rattle.rules.specs.Records.{forServersAt, forHostAt}
-use Rattle.policy.specs.Sound.{betweenSound, topSound, leafSoundAt, soundRoots, rootsAbove}
+use Rattle.rules.specs.declared.rules.Time.{Time}
+use Rattle.policy.specs.Sound.{betweenSound, topSound, leafSoundAt, soundPlaces, placeLimits, soundRoots, rootLimits, rootsAbove, judgedOf}
+use Rattle.policy.specs.declared.judged.Judged.{Judged}
 
 -- ---- by where it stands
 
-module _ (time : ℕ) (c : Certificate) where
+module _ (time : Time) (c : Certificate) where
   pub top-undated : inDate time c ≡ false → topSound time c ≡ false
   unfolding topSound
   top-undated e = rw e
@@ -48,7 +51,7 @@ module _ (time : ℕ) (c : Certificate) where
     unfolding betweenSound
     between-asked told e = rw (dated, told, e, and-true, and-true)
 
-module _ (s : List ℕ) (time : ℕ) (host : List ℕ) (r : Record) where
+module _ (s : List ℕ) (time : Time) (host : List ℕ) (r : Record) where
   pub leaf-undated : inDate time (certificateOf r s) ≡ false → leafSoundAt s time host r ≡ false
   unfolding leafSoundAt
   leaf-undated e = rw e
@@ -74,7 +77,7 @@ module _ (s : List ℕ) (time : ℕ) (host : List ℕ) (r : Record) where
 -- by the answer on a host and a record that are the task's host and the record at place 0
 module _
     (s : List ℕ)
-    (time : ℕ)
+    (time : Time)
     (c : Card)
     (answer : Bool)
     (host : List ℕ)
@@ -93,3 +96,19 @@ module _
     pub above-unsound : (row : ℕ) → answer ≡ false → rootsAbove s time row c ≡ 0
     unfolding rootsAbove
     above-unsound row e = rw (leaf-told, e)
+
+-- ---- the facts
+
+pub judged-is : (s : List ℕ) (time : Time) (c : Card) {bundle roots limits tops : List ℕ} {asked sound above : ℕ}
+    → bundle ≡ bundleRows s (c .bundle) (c .verdicts) → roots ≡ rootRows s (c .roots) (c .bundle) (c .verdicts)
+    → sound ≡ soundPlaces s time (c .bundle) → limits ≡ placeLimits s (c .bundle)
+    → asked ≡ issuersOf roots → above ≡ rootsAbove s time asked c → tops ≡ rootLimits s asked (c .roots)
+    → _≡_ {A = Judged}
+    (record {
+      issuing = record { bundle = bundle; roots = roots };
+      between = record { sound = sound; limits = limits };
+      above = record { sound = above; limits = tops };
+    })
+    (judgedOf s time c)
+unfolding judgedOf
+judged-is s time c b r p l a u t = rw (t, u, a, l, p, r, b)

@@ -1,7 +1,8 @@
 -- A loop that judges each place once: it begins with no place (`judging-starts`), and each turn puts a place's limit, and the place itself
--- where it is sound (`judging-joins`) or not (`judging-passes`); places that are not asked for are skipped (`judging-skips`); it ends with each place judged (`judging-ends`). Assumes nothing.
+-- where it is sound (`judging-turn`); places that are not asked for are skipped (`judging-skips`); it ends with each place judged
+-- (`judging-ends`). Assumes nothing.
 use Prim.Native.Nat.{ℕ, zero, suc, _+_, _<_, _≤_}
-use mathlib.Core.Bool.{Bool, true, false}
+use mathlib.Core.Bool.{Bool, true, false, cond}
 use mathlib.Core.List.{List}
 use mathlib.Core.Path.{_≡_, sym, ap, _∙_}
 use native.Mathlib.Omega.{arith}
@@ -39,8 +40,7 @@ module _ (test : ℕ → Bool) (limit : ℕ → ℕ) (most : ℕ) where
     limit-put : (l : ℕ) → l ≡ limit i → set limits i l ≡ listing most (i + 1) limit
     limit-put l e = rw (e, j .list) (listing-next limit most i room)
 
-    pub judging-joins : (l r : ℕ) → l ≡ limit i → test i ≡ true → r ≡ joined sound i → Judging test limit most r (set limits i l) (i + 1)
-    judging-joins l r e t q = record { row = q ∙ ap (λ x. joined x i) (j .row) ∙ sym (row-more test i t); list = limit-put l e }
-
-    pub judging-passes : (l r : ℕ) → l ≡ limit i → test i ≡ false → r ≡ sound → Judging test limit most r (set limits i l) (i + 1)
-    judging-passes l r e t q = record { row = q ∙ j .row ∙ sym (row-kept test i t); list = limit-put l e }
+    pub judging-turn : (l r : ℕ) (b : Bool) → l ≡ limit i → test i ≡ b → r ≡ cond b (joined sound i) sound
+        → Judging test limit most r (set limits i l) (i + 1)
+    judging-turn l r true e t q = record { row = q ∙ ap (λ x. joined x i) (j .row) ∙ sym (row-more test i t); list = limit-put l e }
+    judging-turn l r false e t q = record { row = q ∙ j .row ∙ sym (row-kept test i t); list = limit-put l e }

@@ -1,43 +1,54 @@
 -- What was judged once per certificate is what a chain's certificates are asked where they stand, on a card that was read:
 -- those between (`all-stand-read`), the roots that were asked for (`top-read`), the leaf (`leaf-read`). Assumes nothing.
 use Prim.Native.Nat.{ℕ, _+_, _<_, _≤_}
-use mathlib.Core.Path.{_≡_, refl, ap₂}
-use mathlib.Core.Bool.{Bool, true, false, cond, _&&_}
+use mathlib.Core.Path.{_≡_, refl, sym, ap, ap₂, _∙_}
+use mathlib.Core.Bool.{Bool, true, cond, _&&_}
 use mathlib.Core.List.{List, [], _∷_, map, List·Memᴰ·head as here, List·Memᴰ·tail as there}
 use native.Mathlib.Omega.{arith}
 use lib.Dec.{ltb}
 use lib.ListN.{length, getD}
 use borrow.Author.Tests.{lt-ltb}
+use Rattle.places.specs.Limits.{rootsMost, bundleMost}
 use Rattle.fields.specs.Fields.{bytesOf}
-use Rattle.record.specs.Certificate.{Certificate, certificateOf}
-use Rattle.certificates.specs.Certificates.{recordOf}
+use Rattle.record.specs.Certificate.{Certificate}
+use Rattle.certificates.specs.Certificates.{recordOf, sizeOf}
 use Rattle.certificates.proofs.Standing.{count-few}
 use Rattle.card.specs.Content.{contentOf, root, bundled, certificateAt}
 use Rattle.card.specs.declared.Card.{Card}
 use Rattle.card.proofs.Sections.{CardRead}
 use Rattle.card.proofs.Standing.{bundled-stands}
-use Rattle.rows.specs.Rows.{has}
-use Rattle.rows.proofs.Places.{has-row, has-none}
+use Rattle.rows.specs.Rows.{has, rowOf, listing}
+use Rattle.rows.proofs.Places.{has-row}
 use Rattle.rows.proofs.Listing.{listing-there}
 use Rattle.issuing.proofs.Agrees.{size-is, root-is, bundled-is}
 use Rattle.order.specs.Listing.{_among_}
 use Rattle.rules.specs.Rules.{allows}
 use Rattle.rules.specs.Limits.{limitOf}
+use Rattle.rules.specs.declared.rules.Time.{Time}
 use Rattle.rules.proofs.LeafRead.{for-servers-read, for-host-read}
 use Rattle.rules.proofs.Limits.{limit-allows}
-use Rattle.policy.specs.Sound.{betweenSound, topSound, leafSoundAt, soundPlaces, placeLimits, soundRoots, rootLimits, rootsAbove}
+use Rattle.policy.specs.Sound.{betweenSound, topSound, leafSoundAt, placeOf, rootOf, soundPlaces, placeLimits, soundRoots, rootLimits, rootsAbove}
 use Rattle.policy.specs.Judging.{stands, allStand}
 use Rattle.policy.proofs.Chains.{allBetween, leafSound}
+use Rattle.policy.proofs.Qualifying.{has-where}
 
-module _ (s : List ℕ) (c : Card) (e : ℕ) (t : CardRead s c e) (time : ℕ) where
+-- one of n, which are no more than most, in their row and in their list
+module _ (most n : ℕ) (few : n ≤ most) (i : ℕ) (h : i < n) where
+  in-row : (test : ℕ → Bool) → n ≤ 64 → has i (rowOf test (sizeOf most n)) ≡ test i
+  in-row test k = rw (size-is most n few, has-row test n i k, lt-ltb i n h)
+
+  in-list : (f : ℕ → ℕ) → getD (listing most (sizeOf most n) f) i 0 ≡ f i
+  in-list f = rw (size-is most n few, listing-there f most n i h)
+
+module _ (s : List ℕ) (c : Card) (e : ℕ) (t : CardRead s c e) (time : Time) where
   abbrev place : ℕ → Certificate
   place i = certificateAt (contentOf c s) (bundled i)
 
-  bundle-most : c .bundle .count ≤ 16
-  bundle-most = count-few 16 s _ _ _ (t .bundle)
+  bundle-most : c .bundle .count ≤ bundleMost
+  bundle-most = count-few bundleMost s _ _ _ (t .bundle)
 
-  roots-most : c .roots .count ≤ 32
-  roots-most = count-few 32 s _ _ _ (t .roots)
+  roots-most : c .roots .count ≤ rootsMost
+  roots-most = count-few rootsMost s _ _ _ (t .roots)
 
   -- ---- those between
 
@@ -45,18 +56,18 @@ module _ (s : List ℕ) (c : Card) (e : ℕ) (t : CardRead s c e) (time : ℕ) w
   unfolding soundPlaces
   sound-read i h =
       let few = bundle-most in
-      rw (size-is 16 (c .bundle .count) few, has-row (λ i. betweenSound time (certificateOf (recordOf (c .bundle .count) (c .bundle .records) i) s)) (c .bundle .count) i (omega arith), lt-ltb i (c .bundle .count) h, bundled-is s c e t i h)
+      in-row bundleMost _ few i h (λ j. betweenSound time (placeOf s (c .bundle) j)) (omega arith) ∙ sym (ap (betweenSound time) (bundled-is s c e t i h))
 
   limits-read : (i : ℕ) → i < c .bundle .count → getD (placeLimits s (c .bundle)) i 0 ≡ limitOf (place i)
   unfolding placeLimits
-  limits-read i h = rw (size-is 16 (c .bundle .count) bundle-most, listing-there _ 16 (c .bundle .count) i h, bundled-is s c e t i h)
+  limits-read i h = in-list bundleMost _ bundle-most i h (λ j. limitOf (placeOf s (c .bundle) j)) ∙ sym (ap limitOf (bundled-is s c e t i h))
 
   stands-read : (k i : ℕ) → i < c .bundle .count → k ≤ 255
-      → (ltb i 16 && stands (soundPlaces s time (c .bundle)) (placeLimits s (c .bundle)) k i) ≡ (betweenSound time (place i) && allows k (place i))
+      → (ltb i bundleMost && stands (soundPlaces s time (c .bundle)) (placeLimits s (c .bundle)) k i) ≡ (betweenSound time (place i) && allows k (place i))
   unfolding stands
   stands-read k i h f =
       let few = bundle-most in
-      rw (lt-ltb i 16 (omega arith), sound-read i h, limits-read i h, limit-allows k (place i) f)
+      rw (lt-ltb i bundleMost (omega arith), sound-read i h, limits-read i h, limit-allows k (place i) f)
 
   pub all-stand-read : (k : ℕ) (l : List ℕ) → ((i : ℕ) → i among l → i < c .bundle .count) → k + length l ≤ 256
       → allStand (soundPlaces s time (c .bundle)) (placeLimits s (c .bundle)) k l ≡ allBetween time k (map place l)
@@ -73,11 +84,11 @@ module _ (s : List ℕ) (c : Card) (e : ℕ) (t : CardRead s c e) (time : ℕ) w
   unfolding soundRoots
   tops-read asked r h a =
       let few = roots-most in
-      rw (size-is 32 (c .roots .count) few, has-row (λ i. has i asked && topSound time (certificateOf (recordOf (c .roots .count) (c .roots .records) i) s)) (c .roots .count) r (omega arith), lt-ltb r (c .roots .count) h, a, root-is s c e t r h)
+      in-row rootsMost _ few r h (λ i. has i asked && topSound time (rootOf s (c .roots) i)) (omega arith) ∙ rw (a, root-is s c e t r h)
 
   top-limits-read : (asked r : ℕ) → r < c .roots .count → has r asked ≡ true → getD (rootLimits s asked (c .roots)) r 0 ≡ limitOf (top r)
   unfolding rootLimits
-  top-limits-read asked r h a = rw (size-is 32 (c .roots .count) roots-most, listing-there _ 32 (c .roots .count) r h, a, root-is s c e t r h)
+  top-limits-read asked r h a = in-list rootsMost _ roots-most r h (λ i. cond (has i asked) (limitOf (rootOf s (c .roots) i)) 0) ∙ rw (a, root-is s c e t r h)
 
   -- ---- the leaf
 
@@ -89,13 +100,9 @@ module _ (s : List ℕ) (c : Card) (e : ℕ) (t : CardRead s c e) (time : ℕ) w
       rw (for-servers-read s _ _ (r .read), for-host-read s _ _ (r .read) (contentOf c s .host), bundled-is s c e t 0 h)
 
   -- a root may stand above exactly where the leaf is sound and it is
-  above-has : (b : Bool) (r row : ℕ) → has r (cond b row 0) ≡ (b && has r row)
-  above-has true r row = refl
-  above-has false r row = has-none r
-
   pub top-read : (asked k r : ℕ) → 0 < c .bundle .count → r < c .roots .count → has r asked ≡ true → k ≤ 255
       → stands (rootsAbove s time asked c) (rootLimits s asked (c .roots)) k r
       ≡ (leafSound time (contentOf c s .host) (place 0) && topSound time (top r) && allows k (top r))
   unfolding stands rootsAbove contentOf
   top-read asked k r z h a f =
-      rw (above-has (leafSoundAt s time (bytesOf (c .task .host .name) s) (recordOf (c .bundle .count) (c .bundle .records) 0)) r (soundRoots s time asked (c .roots)), leaf-read z, tops-read asked r h a, top-limits-read asked r h a, limit-allows k (top r) f)
+      rw (has-where (leafSoundAt s time (bytesOf (c .task .host .name) s) (recordOf (c .bundle .count) (c .bundle .records) 0)) r (soundRoots s time asked (c .roots)), leaf-read z, tops-read asked r h a, top-limits-read asked r h a, limit-allows k (top r) f)

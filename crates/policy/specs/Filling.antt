@@ -4,6 +4,7 @@ use mathlib.Core.Bool.{false}
 use mathlib.Core.List.{List}
 use mathlib.Core.Path.{_≡_}
 use lib.ListN.{length, getD}
+use Rattle.places.specs.Limits.{bundleMost}
 use Rattle.rows.specs.Rows.{has}
 use Rattle.policy.specs.Standing.{falls}
 
@@ -14,5 +15,5 @@ pub record Limited (sound : ℕ) (limits : List ℕ) : Type 0 where
 
 -- row n has those that fall away with n certificates between them and the leaf
 pub record Filled (sound : ℕ) (limits rows : List ℕ) : Type 0 where
-  pub size : length rows ≡ 16
-  pub out : (n i : ℕ) → n < 16 → has i (getD rows n 0) ≡ falls sound limits n i
+  pub size : length rows ≡ bundleMost
+  pub out : (n i : ℕ) → n < bundleMost → has i (getD rows n 0) ≡ falls sound limits n i

@@ -1,10 +1,11 @@
--- A path judged by what was judged of its certificates: each place after the first may stand where it does, and a root that issued the last
+-- A path judged by the facts of its certificates: each place after the first may stand where it does, and a root that issued the last
 -- may stand above. Assumes nothing.
 use Prim.Native.Nat.{ℕ, _+_}
 use mathlib.Core.Bool.{Bool, true, false, _&&_}
 use mathlib.Core.List.{List, [], _∷_}
 use lib.Dec.{leb, ltb}
 use lib.ListN.{length, getD}
+use Rattle.places.specs.Limits.{bundleMost}
 use Rattle.rows.specs.Rows.{has}
 use Rattle.order.specs.Paths.{last}
 use Rattle.policy.specs.declared.judged.Judged.{Judged}
@@ -13,15 +14,15 @@ use Rattle.policy.specs.declared.judged.Judged.{Judged}
 unfoldable pub stands : ℕ → List ℕ → ℕ → ℕ → Bool
 stands sound limits n i = has i sound && leb n (getD limits i 0)
 
--- each of these places is one of 16 and may stand where it does, the first with n certificates between it and the leaf
+-- each of these places is below the bundle's limit and may stand where it does, the first with n certificates between it and the leaf
 unfoldable pub allStand : ℕ → List ℕ → ℕ → List ℕ → Bool
 allStand sound limits n [] = true
-allStand sound limits n (i ∷ l) = ltb i 16 && stands sound limits n i && allStand sound limits (n + 1) l
+allStand sound limits n (i ∷ l) = ltb i bundleMost && stands sound limits n i && allStand sound limits (n + 1) l
 
 -- a path qualifies by root r, as its certificates were judged: each place after the first may stand where it does, r issued the last place
 -- and may stand above
-unfoldable pub qualifiesBy : List ℕ → Judged → List ℕ → ℕ → Bool
-qualifiesBy issued j [] r = false
-qualifiesBy issued j (p ∷ l) r =
-    (ltb (last p l) 16 && allStand (j .between .sound) (j .between .limits) 0 l)
-    && (has r (getD issued (last p l) 0) && stands (j .above .sound) (j .above .limits) (length l) r)
+unfoldable pub qualifiesBy : Judged → List ℕ → ℕ → Bool
+qualifiesBy j [] r = false
+qualifiesBy j (p ∷ l) r =
+    (ltb (last p l) bundleMost && allStand (j .between .sound) (j .between .limits) 0 l)
+    && (has r (getD (j .issuing .roots) (last p l) 0) && stands (j .above .sound) (j .above .limits) (length l) r)

@@ -6,6 +6,7 @@ use Rattle.text.specs.Each.{all}
 use Rattle.record.specs.Certificate.{Certificate}
 use Rattle.card.specs.Content.{Content, root, bundled, certificateAt}
 use Rattle.rules.specs.Rules.{inDate, wellFormed, handled, authority, allows, forServers, forHost}
+use Rattle.rules.specs.declared.rules.Time.{Time}
 
 -- a chain c0 to ck: the leaf, those between, the root
 pub record Chain : Type 0 where
@@ -30,9 +31,9 @@ unfoldable pub pathLengths : ℕ → List Certificate → Bool
 pathLengths n [] = true
 pathLengths n (c ∷ l) = allows n c && pathLengths (n + 1) l
 
-unfoldable pub policy : ℕ → List ℕ → Chain → Bool
-policy now host ch =
-    all (inDate now) (everyone ch)
+unfoldable pub policy : Time → List ℕ → Chain → Bool
+policy time host ch =
+    all (inDate time) (everyone ch)
     && all wellFormed (belowRoot ch)
     && all handled (everyone ch)
     && all authority (aboveLeaf ch)

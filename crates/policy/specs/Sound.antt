@@ -1,8 +1,10 @@
 -- What is judged once per certificate: what the policy asks of it by where it stands in a chain, its path length aside, and its
--- limit. Assumes nothing.
+-- limit; and all the facts of a card that a search asks (`judgedOf`). Assumes nothing.
 use Prim.Native.Nat.{ℕ}
 use mathlib.Core.Bool.{Bool, cond, _&&_}
 use mathlib.Core.List.{List}
+use lib.ListN.{replicate}
+use Rattle.places.specs.Limits.{rootsMost, bundleMost}
 use Rattle.fields.specs.Fields.{bytesOf}
 use Rattle.record.specs.Certificate.{Certificate, certificateOf}
 use Rattle.record.specs.Parts.{headOf, extensionsOf}
@@ -12,20 +14,23 @@ use Rattle.certificates.specs.declared.roots.Roots.{Roots}
 use Rattle.certificates.specs.declared.bundle.Bundle.{Bundle}
 use Rattle.card.specs.declared.Card.{Card}
 use Rattle.rows.specs.Rows.{has, rowOf, listing}
+use Rattle.issuing.specs.Records.{bundleRows, rootRows, issuersOf}
 use Rattle.rules.specs.Rules.{inDate, wellFormed, handled, authority}
 use Rattle.rules.specs.Limits.{limitOf}
 use Rattle.rules.specs.Records.{forServersAt, forHostAt}
+use Rattle.rules.specs.declared.rules.Time.{Time}
+use Rattle.policy.specs.declared.judged.Judged.{Judged}
 
 -- between leaf and root
-unfoldable pub betweenSound : ℕ → Certificate → Bool
+unfoldable pub betweenSound : Time → Certificate → Bool
 betweenSound time c = inDate time c && wellFormed c && handled c && authority c
 
 -- as the root
-unfoldable pub topSound : ℕ → Certificate → Bool
+unfoldable pub topSound : Time → Certificate → Bool
 topSound time c = inDate time c && handled c && authority c
 
 -- as the leaf
-unfoldable pub leafSoundAt : List ℕ → ℕ → List ℕ → Record → Bool
+unfoldable pub leafSoundAt : List ℕ → Time → List ℕ → Record → Bool
 leafSoundAt s time host r =
     inDate time (certificateOf r s)
     && wellFormed (certificateOf r s)
@@ -41,22 +46,46 @@ placeOf s b i = certificateOf (recordOf (b .count) (b .records) i) s
 abbrev pub rootOf : List ℕ → Roots → ℕ → Certificate
 rootOf s r i = certificateOf (recordOf (r .count) (r .records) i) s
 
-unfoldable pub soundPlaces : List ℕ → ℕ → Bundle → ℕ
-soundPlaces s time b = rowOf (λ i. betweenSound time (placeOf s b i)) (sizeOf 16 (b .count))
+unfoldable pub soundPlaces : List ℕ → Time → Bundle → ℕ
+soundPlaces s time b = rowOf (λ i. betweenSound time (placeOf s b i)) (sizeOf bundleMost (b .count))
 
 unfoldable pub placeLimits : List ℕ → Bundle → List ℕ
-placeLimits s b = listing 16 (sizeOf 16 (b .count)) (λ i. limitOf (placeOf s b i))
+placeLimits s b = listing bundleMost (sizeOf bundleMost (b .count)) (λ i. limitOf (placeOf s b i))
 
 -- of the roots those that are asked for
-unfoldable pub soundRoots : List ℕ → ℕ → ℕ → Roots → ℕ
-soundRoots s time asked r = rowOf (λ i. has i asked && topSound time (rootOf s r i)) (sizeOf 32 (r .count))
+unfoldable pub soundRoots : List ℕ → Time → ℕ → Roots → ℕ
+soundRoots s time asked r = rowOf (λ i. has i asked && topSound time (rootOf s r i)) (sizeOf rootsMost (r .count))
 
 unfoldable pub rootLimits : List ℕ → ℕ → Roots → List ℕ
-rootLimits s asked r = listing 32 (sizeOf 32 (r .count)) (λ i. cond (has i asked) (limitOf (rootOf s r i)) 0)
+rootLimits s asked r = listing rootsMost (sizeOf rootsMost (r .count)) (λ i. cond (has i asked) (limitOf (rootOf s r i)) 0)
 
 -- the roots that may stand above: none where the leaf is not sound
-unfoldable pub rootsAbove : List ℕ → ℕ → ℕ → Card → ℕ
+unfoldable pub rootsAbove : List ℕ → Time → ℕ → Card → ℕ
 rootsAbove s time asked c =
     cond (leafSoundAt s time (bytesOf (c .task .host .name) s) (recordOf (c .bundle .count) (c .bundle .records) 0))
     (soundRoots s time asked (c .roots))
     0
+
+-- ---- the facts
+
+-- the roots that issued any of the bundle
+abbrev pub rootIssuers : List ℕ → Card → ℕ
+rootIssuers s c = issuersOf (rootRows s (c .roots) (c .bundle) (c .verdicts))
+
+-- who issued whom, and who may stand where: of the roots those that issued any, since no path reaches another
+unfoldable pub judgedOf : List ℕ → Time → Card → Judged
+judgedOf s time c =
+    record {
+      issuing = record { bundle = bundleRows s (c .bundle) (c .verdicts); roots = rootRows s (c .roots) (c .bundle) (c .verdicts) };
+      between = record { sound = soundPlaces s time (c .bundle); limits = placeLimits s (c .bundle) };
+      above = record { sound = rootsAbove s time (rootIssuers s c) c; limits = rootLimits s (rootIssuers s c) (c .roots) };
+    }
+
+-- what stands where no card was read
+abbrev pub fresh-judged : Judged
+fresh-judged =
+    record {
+      issuing = record { bundle = replicate bundleMost 0; roots = replicate bundleMost 0 };
+      between = record { sound = 0; limits = replicate bundleMost 0 };
+      above = record { sound = 0; limits = replicate rootsMost 0 };
+    }

@@ -1,11 +1,12 @@
 -- How a path stands under the policy, by the seats: begun for the leaf, and one place added at a time. The roots that it gives are those by
 -- which the path qualifies (`roots-qualify` of proofs/Qualifying), so that a search needs to know no rule. Assumes nothing.
-use Prim.Native.Nat.{ℕ, zero, suc, _+_, _<_}
+use Prim.Native.Nat.{ℕ, zero, suc, _+_, _-_, _<_}
 use mathlib.Core.Bool.{Bool, cond, not, _&&_}
 use mathlib.Core.List.{List, [], _∷_}
 use mathlib.Core.Path.{_≡_}
 use lib.Dec.{eqb, ltb}
 use lib.ListN.{getD}
+use Rattle.places.specs.Limits.{rootsMost, bundleMost}
 use Rattle.rows.specs.Rows.{has, left, common, below}
 use Rattle.order.specs.Paths.{last}
 use Rattle.policy.specs.declared.judged.Judged.{Judged}
@@ -24,15 +25,19 @@ placesOut seats n = getD seats n 0
 
 -- the roots that do
 abbrev pub rootsOut : List ℕ → ℕ → ℕ
-rootsOut seats n = getD seats (16 + n) 0
+rootsOut seats n = getD seats (bundleMost + n) 0
 
 -- the seats are those of what was judged
 pub record Seated (j : Judged) (seats : List ℕ) : Type 0 where
-  pub places : (n i : ℕ) → n < 16 → has i (placesOut seats n) ≡ falls (common (j .between .sound) (below 16)) (j .between .limits) n i
-  pub roots : (n r : ℕ) → n < 16 → has r (rootsOut seats n) ≡ falls (common (j .above .sound) (below 32)) (j .above .limits) n r
+  pub places : (n i : ℕ) → n < bundleMost → has i (placesOut seats n) ≡ falls (common (j .between .sound) (below bundleMost)) (j .between .limits) n i
+  pub roots : (n r : ℕ) → n < bundleMost → has r (rootsOut seats n) ≡ falls (common (j .above .sound) (below rootsMost)) (j .above .limits) n r
 
 -- ---- how a path stands that is to go on: the places that may come next, the roots that may then stand above, and how many certificates
 -- are then between those and the leaf
+
+-- the standing of no path: nothing may come next
+abbrev pub fresh-standing : Standing
+fresh-standing = record { places = 0; roots = 0; below = 0 }
 
 -- before the leaf, which any place may be
 unfoldable pub begun : List ℕ → Standing
@@ -45,7 +50,7 @@ over s i = cond (has i (s .places)) (s .roots) 0
 -- a path that stood so and goes on by place i
 unfoldable pub added : List ℕ → Standing → ℕ → Standing
 added seats s i =
-    cond (ltb (s .below) 15)
+    cond (ltb (s .below) (bundleMost - 1))
     (record { places = left (s .places) (placesOut seats (s .below)); roots = left (over s i) (rootsOut seats (s .below + 1)); below = s .below + 1 })
     (record { places = 0; roots = 0; below = s .below })
 

@@ -6,11 +6,15 @@ use card::RootPlace;
 use card::Roots;
 use extensions::Extensions;
 use fields::part;
+use issuing::Issuing;
+use issuing::issuers_of;
+use issuing::who_issued;
 use record::Head;
 use record::Record;
 use rows::lowest;
 use rows::with;
 use rows::without;
+use rules::Time;
 use rules::authority;
 use rules::for_host;
 use rules::for_servers;
@@ -25,7 +29,7 @@ ghost use mathlib.Core.Bool.{_&&_};
 ghost use Rattle.record.specs.Certificate.{certificateBy};
 ghost use Rattle.record.specs.declared.Record.{Record};
 ghost use Rattle.rules.specs.Records.{forServersAt, forHostAt};
-ghost use Rattle.policy.specs.Sound.{leafSoundAt, betweenSound, topSound, soundPlaces, placeLimits, soundRoots, rootLimits, rootsAbove};
+ghost use Rattle.policy.specs.Sound.{leafSoundAt, betweenSound, topSound, soundPlaces, placeLimits, soundRoots, rootLimits, judgedOf, fresh-judged};
 
 // The places of the bundle that may stand between leaf and root, and for each how many certificates its path length lets stand
 // between it and the leaf.
@@ -40,37 +44,65 @@ pub struct Above {
     pub limits: [u8; Roots::MOST],
 }
 
+// All the facts of a card that a search asks.
 pub struct Judged {
+    pub issuing: Issuing,
     pub between: Between,
     pub above: Above,
 }
 
-// A card's certificates, each judged once, at a time; of the roots only those that are asked for, since most have issued none.
-pub fn judge(file: &[u8], time: u64, card: Card, asked: u64) -> Judged
-    ensures places { λ r. ⌜ r .between .sound ≡ soundPlaces (now (file .entry)) time (card .bundle) ⌝ }
-    ensures place_limits { λ r. ⌜ r .between .limits ≡ placeLimits (now (file .entry)) (card .bundle) ⌝ }
-    ensures roots { λ r. ⌜ r .above .sound ≡ rootsAbove (now (file .entry)) time asked card ⌝ }
-    ensures root_limits { λ r. ⌜ r .above .limits ≡ rootLimits (now (file .entry)) asked (card .roots) ⌝ }
+impl Judged {
+    // The facts of no card: none issued any, and none may stand anywhere.
+    pub fn new() -> Judged
+        ensures { λ r. ⌜ r ≡ fresh-judged ⌝ }
+    {
+        Judged {
+            issuing: Issuing {
+                bundle: [0u64; Bundle::MOST],
+                roots: [0u64; Bundle::MOST],
+            },
+            between: Between {
+                sound: 0,
+                limits: [0u8; Bundle::MOST],
+            },
+            above: Above {
+                sound: 0,
+                limits: [0u8; Roots::MOST],
+            },
+        }
+    }
+}
+
+// A card's certificates, each compared and judged once, at a time; of the roots only those that issued any, since no path reaches another.
+pub fn judge(file: &[u8], time: Time, card: Card) -> Judged
+    ensures { λ r. ⌜ r ≡ judgedOf (now (file .entry)) time card ⌝ }
 {
+    let issuing = who_issued(file, card);
+    let by_roots = issuing.roots;
     let between = places_between(file, time, card.bundle);
-    let above = roots_above(file, time, asked, card.roots);
+    let above = roots_above(file, time, issuers_of(by_roots), card.roots);
     if leaf_sound(
         file,
         time,
         part(file, card.task.host.name),
         card.bundle.record(BundlePlace(0)),
     ) {
-        return Judged { between, above };
+        return Judged {
+            issuing,
+            between,
+            above,
+        };
     }
     let limits = above.limits;
     Judged {
+        issuing,
         between,
         above: Above { sound: 0, limits },
     }
 }
 
 // All that is asked of the leaf.
-fn leaf_sound(file: &[u8], time: u64, host: &[u8], leaf: Record) -> bool
+fn leaf_sound(file: &[u8], time: Time, host: &[u8], leaf: Record) -> bool
     ensures { λ r. ⌜ r ≡ leafSoundAt (now (file .entry)) time (now (host .entry)) leaf ⌝ }
 {
     let head = leaf.head(file);
@@ -96,7 +128,7 @@ fn leaf_serves(file: &[u8], host: &[u8], extensions: Extensions) -> bool
 
 // What is asked of a certificate between leaf and root, its path length aside. Its strings are compared last, since most that fail are
 // no authorities, as the leaf.
-fn between_sound(file: &[u8], time: u64, head: Head, cert: Record) -> bool
+fn between_sound(file: &[u8], time: Time, head: Head, cert: Record) -> bool
     ensures { λ r. ⌜ r ≡ betweenSound time (certificateBy head cert (now (file .entry))) ⌝ }
 {
     if in_date(time, head) {
@@ -110,7 +142,7 @@ fn between_sound(file: &[u8], time: u64, head: Head, cert: Record) -> bool
 }
 
 // What is asked of a root, its path length aside.
-fn top_sound(time: u64, head: Head) -> bool
+fn top_sound(time: Time, head: Head) -> bool
     ensures { λ r. ⌜ ((cert : Record) (s : List ℕ) → r ≡ topSound time (certificateBy head cert s)) ⌝ }
 {
     if in_date(time, head) {
@@ -121,7 +153,7 @@ fn top_sound(time: u64, head: Head) -> bool
     false
 }
 
-fn places_between(file: &[u8], time: u64, bundle: Bundle) -> Between
+fn places_between(file: &[u8], time: Time, bundle: Bundle) -> Between
     ensures { λ r. ⌜ (r .sound ≡ soundPlaces (now (file .entry)) time bundle) × (r .limits ≡ placeLimits (now (file .entry)) bundle) ⌝ }
 {
     let n = bundle.size();
@@ -140,7 +172,7 @@ fn places_between(file: &[u8], time: u64, bundle: Bundle) -> Between
     Between { sound, limits }
 }
 
-fn roots_above(file: &[u8], time: u64, asked: u64, roots: Roots) -> Above
+fn roots_above(file: &[u8], time: Time, asked: u64, roots: Roots) -> Above
     ensures { λ r. ⌜ (r .sound ≡ soundRoots (now (file .entry)) time asked roots) × (r .limits ≡ rootLimits (now (file .entry)) asked roots) ⌝ }
 {
     let n = roots.size();

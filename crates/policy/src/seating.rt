@@ -10,6 +10,7 @@ use rows::with;
 use rows::without;
 ghost use mathlib.Core.Path.{_≡_};
 ghost use lib.ListN.{replicate};
+ghost use Rattle.places.specs.Limits.{bundleMost};
 ghost use Rattle.policy.specs.Filling.{Limited, Filled};
 ghost use Rattle.policy.specs.Standing.{Seated};
 
@@ -45,7 +46,7 @@ pub fn seats_of(judged: Judged) -> Seats
 
 // Row 0 gets those that may stand nowhere, row n + 1 those whose limit is n.
 fn fill(rows: &mut [u64], sound: u64, limits: &[u8])
-    requires { ⌜ now rows ≡ replicate 16 0 ⌝ }
+    requires { ⌜ now rows ≡ replicate bundleMost 0 ⌝ }
     requires { ⌜ Limited sound (now limits) ⌝ }
     ensures { λ _. ⌜ Filled sound (now (limits .entry)) (now (rows .exit)) ⌝ }
 {

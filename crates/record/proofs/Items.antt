@@ -11,8 +11,8 @@ use Rattle.record.proofs.Meaning.{RecordRead, extensions-read-of, says-
 module _ (s : List ℕ) (r : Record) (e : ℕ) (t : RecordRead s r e) where
   pub says-usage : (i : ℕ) → i < t .extensions-are .usages .count
       → Found (itemP usageP usageP (t .extensions-are .usages) i s) (getD (certificateOf r s .usages) i 0)
-  says-usage i l = rw (says-usages s r e t) (item-read 8 usageP s _ _ (extensions-read-of s r e t .usages) 0 i l)
+  says-usage i l = rw (says-usages s r e t) (item-read _ usageP s _ _ (extensions-read-of s r e t .usages) 0 i l)
 
   pub says-dns-name : (i : ℕ) → i < t .extensions-are .«dns_names» .count
       → Spelt (itemP dnsNameP dnsSpanP (t .extensions-are .«dns_names») i s) s (getD (certificateOf r s .dns-names) i [])
-  says-dns-name i l = rw (says-dns-names s r e t) (dns-name-read 32 s _ _ (extensions-read-of s r e t .dns-names) i l)
+  says-dns-name i l = rw (says-dns-names s r e t) (dns-name-read _ s _ _ (extensions-read-of s r e t .dns-names) i l)

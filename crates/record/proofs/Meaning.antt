@@ -12,12 +12,12 @@ use Rattle.fields.specs.Fields.{got, spanP, byteP, bigP, countP, countedP, many
 use Rattle.fields.proofs.After.{after-got, judged-got, got-is}
 use Rattle.fields.proofs.Counts.{byte-few, count-read}
 use Rattle.fields.proofs.Strings.{SpanRead, span-read}
-use Rattle.names.specs.Names.{Attr, nameP}
-use Rattle.lists.specs.Lists.{usageP, dnsNameP, usagesP, rowP}
-use Rattle.extensions.specs.Extensions.{keyIdsP, pathLengthP, extensionsP}
+use Rattle.names.specs.Names.{Attr, nameP, nameMost}
+use Rattle.lists.specs.Lists.{usageP, dnsNameP, usagesP, rowP, usagesMost}
+use Rattle.extensions.specs.Extensions.{keyIdsP, pathLengthP, extensionsP, serialMost}
 use Rattle.extensions.specs.declared.Extensions.{Extensions}
 use Rattle.extensions.proofs.Meaning.{ExtensionsRead, extensions-read}
-use Rattle.record.specs.Record.{paired, flagsP, datesP, headP, stringsP, namesP, placeOf, placed, recordP}
+use Rattle.record.specs.Record.{paired, flagsP, datesP, headP, stringsP, namesP, placeMost, placeOf, placed, recordP, algorithmMost}
 use Rattle.record.specs.Fresh.{no-head, no-extensions}
 use Rattle.record.specs.Parts.{valueOr, headOf, extensionsOf}
 use Rattle.record.specs.Certificate.{certificateBy, certificateOf, listOf}
@@ -60,23 +60,23 @@ head-read s at h e r =
 pub record StringsRead (s : List ℕ) (at : ℕ) (p : Strings) (e : ℕ) : Type 0 where
   pub outer-at : ℕ
   pub inner-at : ℕ
-  pub serial : SpanRead 1 20 s at (p .serial) outer-at
-  pub outer : SpanRead 1 32 s outer-at (p .outer) inner-at
-  pub inner : SpanRead 1 32 s inner-at (p .inner) e
+  pub serial : SpanRead 1 serialMost s at (p .serial) outer-at
+  pub outer : SpanRead 1 algorithmMost s outer-at (p .outer) inner-at
+  pub inner : SpanRead 1 algorithmMost s inner-at (p .inner) e
 
 strings-read : (s : List ℕ) (at : ℕ) (p : Strings) (e : ℕ) → stringsP s at ≡ got p e → StringsRead s at p e
 unfolding stringsP
 strings-read s at p e h =
-    let serial = after-got (spanP 1 20 s at) _ h in
-    let outer = after-got (spanP 1 32 s (serial .place)) _ (serial .next) in
-    let inner = after-got (spanP 1 32 s (outer .place)) _ (outer .next) in
+    let serial = after-got (spanP 1 serialMost s at) _ h in
+    let outer = after-got (spanP 1 algorithmMost s (serial .place)) _ (serial .next) in
+    let inner = after-got (spanP 1 algorithmMost s (outer .place)) _ (outer .next) in
     got-is (StringsRead s at) (inner .next)
     (record {
       outer-at = serial .place;
       inner-at = outer .place;
-      serial = span-read 1 20 s at _ _ (serial .first);
-      outer = span-read 1 32 s _ _ _ (outer .first);
-      inner = span-read 1 32 s _ _ _ (inner .first);
+      serial = span-read 1 serialMost s at _ _ (serial .first);
+      outer = span-read 1 algorithmMost s _ _ _ (outer .first);
+      inner = span-read 1 algorithmMost s _ _ _ (inner .first);
     })
 
 -- ---- where the parts stand
@@ -119,8 +119,8 @@ head-ends s at h e r =
 name-there : (s : List ℕ) (at : ℕ) (n : List (List Attr)) (e : ℕ) → nameP s at ≡ got n e → at < length s
 unfolding nameP countedP
 name-there s at n e h =
-    let count = after-got (countP 0 16 s at) _ h in
-    count-read 0 16 s at (count .value) (count .place) (count .first) .there
+    let count = after-got (countP 0 nameMost s at) _ h in
+    count-read 0 nameMost s at (count .value) (count .place) (count .first) .there
 
 -- what is behind the names begins within the file, since its lists do
 extensions-there : (flags : ℕ) (s : List ℕ) (at : ℕ) (x : Extensions) (e : ℕ) → extensionsP flags s at ≡ got x e → at < length s
@@ -129,8 +129,8 @@ extensions-there flags s at x e h =
     let keys = after-got (keyIdsP flags s at) _ h in
     let path = after-got (pathLengthP flags s (keys .place)) _ (keys .next) in
     let usages = after-got (usagesP s (path .place)) _ (path .next) in
-    let count = after-got (countP 0 8 s (path .place)) _ (usages .first) in
-    let there = count-read 0 8 s (path .place) (count .value) (count .place) (count .first) .there in
+    let count = after-got (countP 0 usagesMost s (path .place)) _ (usages .first) in
+    let there = count-read 0 usagesMost s (path .place) (count .value) (count .place) (count .first) .there in
     omega (arith, key-ids-onward s flags at .ends _ _ (keys .first), path-length-onward s flags (keys .place) .ends _ _ (path .first))
 
 -- ---- the whole
@@ -149,10 +149,10 @@ pub record RecordRead (s : List ℕ) (r : Record) (e : ℕ) : Type 0 where
   pub extensions : extensionsP (head-is .flags) s (r .rest) ≡ got extensions-are e
 
 -- a place of a file that is not too long stays as it is
-stays : (s : List ℕ) (at : ℕ) → length s ≤ 65535 → at < length s → placeOf at ≡ at
+stays : (s : List ℕ) (at : ℕ) → length s ≤ placeMost → at < length s → placeOf at ≡ at
 stays s at l h = mod-eq-of-lt (omega arith)
 
-module _ (s : List ℕ) (few : length s ≤ 65535) where
+module _ (s : List ℕ) (few : length s ≤ placeMost) where
   placed-read : (at f g k e : ℕ) (h : Head) (t : Strings) (i j : List (List Attr)) (x : Extensions)
       → headP s at ≡ got h (at + 18) → stringsP s (at + 18) ≡ got t f → nameP s f ≡ got i g → nameP s g ≡ got j k
       → extensionsP (h .flags) s k ≡ got x e → RecordRead s (placed at f g k) e

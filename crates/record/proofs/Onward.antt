@@ -9,10 +9,10 @@ use lib.Dec.{leb}
 use Rattle.fields.specs.Fields.{Parsed, got, stop, after, countP, spanP, stringP, many, countedP, byteP}
 use Rattle.fields.proofs.Counts.{count-read}
 use Rattle.fields.proofs.Strings.{span-read}
-use Rattle.names.specs.Names.{attrP, rdnP, nameP}
-use Rattle.lists.specs.Lists.{usageP, usagesP, dnsNameP, dnsNamesP, rowP}
-use Rattle.extensions.specs.Extensions.{flag, optionP, keyIdsP, pathLengthP, extensionsP}
-use Rattle.record.specs.Record.{stringsP}
+use Rattle.names.specs.Names.{attrP, rdnP, nameP, oidMost, valueMost, rdnMost, nameMost}
+use Rattle.lists.specs.Lists.{usageP, usagesP, dnsNameP, dnsNamesP, rowP, usageMost, usagesMost, dnsNameMost, dnsNamesMost}
+use Rattle.extensions.specs.Extensions.{flag, optionP, keyIdsP, pathLengthP, extensionsP, keyIdMost, serialMost}
+use Rattle.record.specs.Record.{stringsP, algorithmMost}
 
 -- ---- any things
 
@@ -78,17 +78,17 @@ module _ (s : List ℕ) where
   attr-onward : (at : ℕ) → Onward at (attrP s at)
   unfolding attrP
   attr-onward at =
-      onward-after (stringP 1 16 s at) _ (no-earlier (string-onward s 1 16 at)) (λ o e.
-      onward-after (stringP 0 255 s e) _ (no-earlier (string-onward s 0 255 e)) (λ v f.
+      onward-after (stringP 1 oidMost s at) _ (no-earlier (string-onward s 1 oidMost at)) (λ o e.
+      onward-after (stringP 0 valueMost s e) _ (no-earlier (string-onward s 0 valueMost e)) (λ v f.
       onward-got f _ f (omega arith)))
 
   rdn-onward : (at : ℕ) → Onward at (rdnP s at)
   unfolding rdnP
-  rdn-onward at = no-earlier (counted-onward attrP s attr-onward 1 4 at)
+  rdn-onward at = no-earlier (counted-onward attrP s attr-onward 1 rdnMost at)
 
   pub name-onward : (at : ℕ) → Onward (at + 1) (nameP s at)
   unfolding nameP
-  name-onward at = counted-onward rdnP s rdn-onward 0 16 at
+  name-onward at = counted-onward rdnP s rdn-onward 0 nameMost at
 
 -- ---- the parts of a record
 
@@ -100,9 +100,9 @@ module _ (s : List ℕ) where
   pub strings-onward : (at : ℕ) → Onward (at + 1) (stringsP s at)
   unfolding stringsP
   strings-onward at =
-      onward-after (spanP 1 20 s at) _ (span-onward s 1 20 at) (λ p e.
-      onward-after (spanP 1 32 s e) _ (no-earlier (span-onward s 1 32 e)) (λ q f.
-      onward-after (spanP 1 32 s f) _ (no-earlier (span-onward s 1 32 f)) (λ r g.
+      onward-after (spanP 1 serialMost s at) _ (span-onward s 1 serialMost at) (λ p e.
+      onward-after (spanP 1 algorithmMost s e) _ (no-earlier (span-onward s 1 algorithmMost e)) (λ q f.
+      onward-after (spanP 1 algorithmMost s f) _ (no-earlier (span-onward s 1 algorithmMost f)) (λ r g.
       onward-got g _ g (omega arith))))
 
   option-onward : (b : Bool) (most at : ℕ) → Onward at (optionP b most s at)
@@ -113,9 +113,9 @@ module _ (s : List ℕ) where
   pub key-ids-onward : (flags at : ℕ) → Onward at (keyIdsP flags s at)
   unfolding keyIdsP
   key-ids-onward flags at =
-      onward-after (optionP (flag 1 flags) 64 s at) _ (option-onward (flag 1 flags) 64 at) (λ a e.
-      onward-after (optionP (flag 2 flags) 20 s e) _ (option-onward (flag 2 flags) 20 e) (λ b f.
-      onward-after (optionP (flag 4 flags) 64 s f) _ (option-onward (flag 4 flags) 64 f) (λ c g.
+      onward-after (optionP (flag 1 flags) keyIdMost s at) _ (option-onward (flag 1 flags) keyIdMost at) (λ a e.
+      onward-after (optionP (flag 2 flags) serialMost s e) _ (option-onward (flag 2 flags) serialMost e) (λ b f.
+      onward-after (optionP (flag 4 flags) keyIdMost s f) _ (option-onward (flag 4 flags) keyIdMost f) (λ c g.
       onward-got g _ g (omega arith))))
 
   pub path-length-onward : (flags at : ℕ) → Onward at (pathLengthP flags s at)
@@ -128,17 +128,17 @@ module _ (s : List ℕ) where
 
   usage-onward : (at : ℕ) → Onward at (usageP s at)
   unfolding usageP
-  usage-onward at = onward-after (byteP s at) _ (byte-onward at) (λ u e. onward-judged (leb u 7) _ 8 (onward-got e u e (omega arith)))
+  usage-onward at = onward-after (byteP s at) _ (byte-onward at) (λ u e. onward-judged (leb u usageMost) _ 8 (onward-got e u e (omega arith)))
 
   dns-name-onward : (at : ℕ) → Onward at (dnsNameP s at)
   unfolding dnsNameP
-  dns-name-onward at = no-earlier (string-onward s 1 253 at)
+  dns-name-onward at = no-earlier (string-onward s 1 dnsNameMost at)
 
   pub extensions-onward : (flags at : ℕ) → Onward at (extensionsP flags s at)
   unfolding extensionsP
   extensions-onward flags at =
       onward-after (keyIdsP flags s at) _ (key-ids-onward flags at) (λ k e.
       onward-after (pathLengthP flags s e) _ (path-length-onward flags e) (λ p f.
-      onward-after (usagesP s f) _ (row-onward usageP s usage-onward 8 f) (λ u g.
-      onward-after (dnsNamesP s g) _ (row-onward dnsNameP s dns-name-onward 32 g) (λ d h.
+      onward-after (usagesP s f) _ (row-onward usageP s usage-onward usagesMost f) (λ u g.
+      onward-after (dnsNamesP s g) _ (row-onward dnsNameP s dns-name-onward dnsNamesMost g) (λ d h.
       onward-got h _ h (omega arith)))))

@@ -1,6 +1,6 @@
 -- What stands where nothing was read. Assumes nothing.
+use Rattle.fields.specs.Fields.{nowhere}
 use Rattle.lists.specs.declared.Row.{Row}
-use Rattle.extensions.specs.Extensions.{nowhere}
 use Rattle.extensions.specs.declared.KeyIds.{KeyIds}
 use Rattle.extensions.specs.declared.Extensions.{Extensions}
 use Rattle.record.specs.declared.head.Head.{Head}

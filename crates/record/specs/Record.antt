@@ -1,11 +1,11 @@
 -- A record as it stands in a card file: its parts in their order, each with its limits, judged from left to right. What is found are
 -- numbers and the places of strings, names and lists (docs/CARD-FILE.md, "Record"). Assumes nothing.
-use Prim.Native.Nat.{ℕ, _%_}
+use Prim.Native.Nat.{ℕ, _+_, _%_}
 use mathlib.Core.Bool.{Bool, cond, _&&_, _||_, not}
 use mathlib.Core.List.{List}
 use Rattle.fields.specs.Fields.{Parsed, got, stop, after, byteP, spanP, bigP}
 use Rattle.names.specs.Names.{nameP}
-use Rattle.extensions.specs.Extensions.{flag, extensionsP}
+use Rattle.extensions.specs.Extensions.{flag, extensionsP, serialMost}
 use Rattle.record.specs.declared.head.Head.{Head}
 use Rattle.record.specs.declared.strings.Strings.{Strings}
 use Rattle.record.specs.declared.parties.Names.{Names}
@@ -39,12 +39,16 @@ headP s at =
     after (datesP s e) (λ d f.
     got (record { version = v .0; flags = v .1; «not_before» = d .0; «not_after» = d .1 }) f))
 
+-- the most bytes of an algorithm
+abbrev pub algorithmMost : ℕ
+algorithmMost = 32
+
 -- serial 1..20, outer and inner algorithm 1..32 each
 unfoldable pub stringsP : List ℕ → ℕ → Parsed Strings
 stringsP s at =
-    after (spanP 1 20 s at) (λ serial e.
-    after (spanP 1 32 s e) (λ outer f.
-    after (spanP 1 32 s f) (λ inner g.
+    after (spanP 1 serialMost s at) (λ serial e.
+    after (spanP 1 algorithmMost s e) (λ outer f.
+    after (spanP 1 algorithmMost s f) (λ inner g.
     got (record { serial = serial; outer = outer; inner = inner }) g)))
 
 -- issuer name and subject name
@@ -54,9 +58,13 @@ namesP s at =
     after (nameP s e) (λ _ f.
     got (record { issuer = at; subject = e }) f))
 
+-- the last place that a record can hold: a u16
+abbrev pub placeMost : ℕ
+placeMost = 65535
+
 -- a place as a record holds it: every place of a card file fits
 abbrev pub placeOf : ℕ → ℕ
-placeOf at = at % 65536
+placeOf at = at % (placeMost + 1)
 
 abbrev pub placed : ℕ → ℕ → ℕ → ℕ → Record
 placed start issuer subject rest =

@@ -42,7 +42,7 @@ pub struct Record {
 impl Record {
     pub const SERIAL_LEAST: usize = 1;
 
-    pub const SERIAL_MOST: usize = 20;
+    pub const SERIAL_MOST: usize = KeyIds::SERIAL_MOST;
 
     pub const ALGORITHM_LEAST: usize = 1;
 
@@ -120,11 +120,10 @@ impl Record {
                 return strings;
             }
             StringsAt::Stop(_) => {
-                let nowhere = Span { start: 0, end: 0 };
                 return Strings {
-                    serial: nowhere,
-                    outer: nowhere,
-                    inner: nowhere,
+                    serial: Span::NOWHERE,
+                    outer: Span::NOWHERE,
+                    inner: Span::NOWHERE,
                 };
             }
         }
@@ -159,11 +158,10 @@ impl Record {
                 return key_ids;
             }
             KeyIdsAt::Stop(_) => {
-                let nowhere = Span { start: 0, end: 0 };
                 return KeyIds {
-                    authority: nowhere,
-                    authority_serial: nowhere,
-                    subject: nowhere,
+                    authority: Span::NOWHERE,
+                    authority_serial: Span::NOWHERE,
+                    subject: Span::NOWHERE,
                 };
             }
         }
@@ -181,13 +179,12 @@ impl Record {
                 return extensions;
             }
             ExtensionsAt::Stop(_) => {
-                let nowhere = Span { start: 0, end: 0 };
                 let none = Row { count: 0, first: 0 };
                 return Extensions {
                     key_ids: KeyIds {
-                        authority: nowhere,
-                        authority_serial: nowhere,
-                        subject: nowhere,
+                        authority: Span::NOWHERE,
+                        authority_serial: Span::NOWHERE,
+                        subject: Span::NOWHERE,
                     },
                     path_length: 0,
                     usages: none,

@@ -1,11 +1,11 @@
 // The paused run, and the paths that wait after it.
 use crate::say;
 use libc::STDOUT_FILENO;
+use reply::Answer;
+use reply::Slot;
 use report::Room;
 use report::line_of;
 use search::paused;
-use steps::Answer;
-use steps::Slot;
 ghost use Prim.Native.Nat.{_≤_};
 ghost use lib.ListN.{length};
 

@@ -1,17 +1,12 @@
 -- A path's places behind a line, one by one. Assumes nothing.
-use mathlib.Core.Bool.{Bool, true, false}
 use mathlib.Core.List.{List, [], _∷_, _++_, map, append-nil, append-assoc, map-append}
-use mathlib.Core.Path.{_≡_, refl, ap, sym, _∙_}
-use Prim.Native.Nat.{ℕ, _+_, _≤_, _<_, min}
-use native.Mathlib.Nat.{min-eq-left, min-eq-right}
+use mathlib.Core.Path.{_≡_, ap, sym, _∙_}
+use Prim.Native.Nat.{ℕ, _+_, _<_}
 use native.Mathlib.Numerals.{add-one}
-use native.Mathlib.Omega.{arith}
-use borrow.Author.Tests.{ltb-true, ltb-false}
-use lib.Dec.{ltb}
 use lib.ListN.{length, take, getD}
-use lib.Seq.{take-suc, take-all}
-use Rattle.certificates.specs.declared.places.BundlePlace.{BundlePlace}
-use Rattle.steps.specs.Answer.{placed}
+use lib.Seq.{take-suc}
+use Rattle.places.specs.declared.BundlePlace.{BundlePlace}
+use Rattle.reply.specs.Answer.{placed}
 use Rattle.report.specs.Lines.{spaced, numberOf}
 use Rattle.report.specs.Text.{ascii, decimal}
 
@@ -30,13 +25,3 @@ place-behind l places j h =
     (append-assoc l (spaced (map numberOf (take j places))) (ascii " " ++ decimal (numberOf p))
     ∙ ap (λ (r : List ℕ). l ++ r)
     (sym (spaced-snoc (map numberOf (take j places)) (numberOf p)) ∙ ap spaced (sym (map-append numberOf (take j places) (p ∷ [])))))
-
--- there are 16 places at most
-pub take-few : (n : ℕ) (l : List BundlePlace) → length l ≡ 16 → take (min n 16) l ≡ take n l
-take-few n l h = by-size (ltb n 16) refl
-  where
-    by-size : (b : Bool) → ltb n 16 ≡ b → take (min n 16) l ≡ take n l
-    by-size true e = let k : n < 16 = ltb-true n 16 e in rw (min-eq-left {n = n} {m = 16} (omega arith))
-    by-size false e =
-        let k : 16 ≤ n = ltb-false n 16 e in
-        rw (min-eq-right {n = 16} {m = n} k) (take-all 16 l (omega arith) ∙ sym (take-all n l (omega arith)))

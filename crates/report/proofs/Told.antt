@@ -5,14 +5,15 @@ use mathlib.Core.Path.{_≡_, refl, ap, _∙_}
 use Prim.Native.Nat.{ℕ, _-_}
 use lib.ListN.{length, take, replicate, length-map}
 use lib.Seq.{take-at}
-use Rattle.certificates.specs.declared.places.BundlePlace.{BundlePlace}
+use Rattle.places.specs.Limits.{bundleMost}
+use Rattle.places.specs.declared.BundlePlace.{BundlePlace}
 use Rattle.order.specs.Paths.{Places}
-use Rattle.steps.specs.declared.Answer.{Answer}
-use Rattle.steps.specs.declared.Reply.the-variants as reply
-use Rattle.steps.specs.Answer.{Tells, Stops, telling, saying, shown, placed, pathShown}
-use Rattle.steps.specs.Settles.{Roots, Outcome}
-use Rattle.steps.specs.Slots.{padded}
-use Rattle.report.specs.Lines.{lineOf, newline, numberOf, placesShown, spaced, toldLine, wordsFor}
+use Rattle.reply.specs.declared.Answer.{Answer}
+use Rattle.reply.specs.declared.Reply.the-variants as reply
+use Rattle.reply.specs.Answer.{Tells, Stops, saying, shown, placed, pathShown}
+use Rattle.reply.specs.Settles.{Roots, Outcome}
+use Rattle.reply.specs.Slots.{padded}
+use Rattle.report.specs.Lines.{lineOf, newline, numberOf, placesShown, spaced, words}
 use Rattle.report.specs.Text.{ascii, decimal, decimalIn}
 
 opened : (p : List ℕ) → map numberOf (map placed p) ≡ p
@@ -22,36 +23,36 @@ opened (i ∷ p) = ap (λ (l : List ℕ). i ∷ l) (opened p)
 path-places : (p : List ℕ) → placesShown (pathShown p) ≡ p
 unfolding placesShown pathShown padded
 path-places p =
-    let z : List ℕ = replicate (16 - length p) 0 in
+    let z : List ℕ = replicate (bundleMost - length p) 0 in
     ap (λ (l : List BundlePlace). map numberOf (take (length p) l)) (map-append placed p z)
     ∙ ap (map numberOf) (take-at (map placed p) (map placed z) (length p) (length-map p placed))
     ∙ opened p
 
-pub line-tells : {g : Places} {w : Roots} {k : ℕ} {a : Answer} {o : Outcome} → Tells g w k a o → lineOf a ≡ toldLine (saying o) (shown o)
+pub line-tells : {g : Places} {w : Roots} {k : ℕ} {a : Answer} {o : Outcome} → Tells g w k a o → lineOf a ≡ words (saying o) (shown o) ++ newline
 line-tells {o = o} t = rw (t .says, t .shows, path-places (shown o))
 
-pub line-stops : {e : ℕ} {before after : List ℕ} {a : Answer} → Stops e before after a → lineOf a ≡ toldLine (telling e 0 0) []
+pub line-stops : {e : ℕ} {before after : List ℕ} {a : Answer} → Stops e before after a → lineOf a ≡ words (reply.Error e) [] ++ newline
 line-stops t = rw (t .says, t .shows, path-places [])
 
 -- ---- lines
 
 accepted : lineOf (record { reply = reply.Accepted (record { 0 = 0 }) 1; path = pathShown (0 ∷ []) }) ≡ ascii "ACCEPT steps 1 root 0 path 0" ++ newline
-unfolding decimal decimalIn spaced wordsFor placesShown toldLine pathShown padded
+unfolding decimal decimalIn spaced words placesShown pathShown padded
 accepted = refl
 
 accepted-far :
     lineOf (record { reply = reply.Accepted (record { 0 = 31 }) 120; path = pathShown (0 ∷ 15 ∷ 9 ∷ []) }) ≡ ascii "ACCEPT steps 120 root 31 path 0 15 9" ++ newline
-unfolding decimal decimalIn spaced wordsFor placesShown toldLine pathShown padded
+unfolding decimal decimalIn spaced words placesShown pathShown padded
 accepted-far = refl
 
 refused : lineOf (record { reply = reply.Refused 16; path = pathShown [] }) ≡ ascii "REFUSE steps 16" ++ newline
-unfolding decimal decimalIn wordsFor toldLine
+unfolding decimal decimalIn words
 refused = refl
 
 exhausted : lineOf (record { reply = reply.Exhausted 0; path = pathShown [] }) ≡ ascii "EXHAUSTED steps 0" ++ newline
-unfolding decimal decimalIn wordsFor toldLine
+unfolding decimal decimalIn words
 exhausted = refl
 
-empty-chain : lineOf (record { reply = reply.EmptyChain; path = pathShown [] }) ≡ ascii "ERROR 3" ++ newline
-unfolding decimal decimalIn wordsFor toldLine
+empty-chain : lineOf (record { reply = reply.Error 3; path = pathShown [] }) ≡ ascii "ERROR 3" ++ newline
+unfolding decimal decimalIn words
 empty-chain = refl

@@ -1,11 +1,13 @@
 -- The line that is written for an answer (docs/CARD-FILE.md, "Replies"). Assumes nothing.
 use mathlib.Core.List.{List, [], _∷_, _++_, map}
-use Prim.Native.Nat.{ℕ, zero, suc, _-_}
+use Prim.Native.Nat.{ℕ, _+_, _-_, _*_}
 use lib.ListN.{length, take, replicate}
-use Rattle.certificates.specs.declared.places.BundlePlace.{BundlePlace}
-use Rattle.steps.specs.declared.Answer.{Answer}
-use Rattle.steps.specs.declared.Path.{Path}
-use Rattle.steps.specs.Answer.{Told, told}
+use Rattle.places.specs.Limits.{bundleMost}
+use Rattle.places.specs.declared.BundlePlace.{BundlePlace}
+use Rattle.reply.specs.declared.Answer.{Answer}
+use Rattle.reply.specs.declared.path.Path.{Path}
+use Rattle.reply.specs.declared.Reply.{Reply}
+use Rattle.reply.specs.declared.Reply.the-variants as reply
 use Rattle.report.specs.Text.{ascii, decimal}
 use Rattle.report.specs.declared.line.Line.{Line}
 
@@ -14,12 +16,12 @@ unfoldable pub spaced : List ℕ → List ℕ
 spaced [] = []
 spaced (p ∷ l) = (ascii " " ++ decimal p) ++ spaced l
 
--- the words for a reply's number, its root and steps, and a path
-unfoldable pub wordsFor : ℕ → ℕ → ℕ → List ℕ → List ℕ
-wordsFor zero root steps path = (((ascii "ACCEPT steps " ++ decimal steps) ++ (ascii " root " ++ decimal root)) ++ ascii " path") ++ spaced path
-wordsFor (suc zero) root steps path = ascii "REFUSE steps " ++ decimal steps
-wordsFor (suc (suc zero)) root steps path = ascii "EXHAUSTED steps " ++ decimal steps
-wordsFor (suc (suc (suc n))) root steps path = ascii "ERROR " ++ decimal (suc (suc (suc n)))
+-- the words for a reply and a path
+unfoldable pub words : Reply → List ℕ → List ℕ
+words (reply.Accepted r s) path = (((ascii "ACCEPT steps " ++ decimal s) ++ (ascii " root " ++ decimal (r .0))) ++ ascii " path") ++ spaced path
+words (reply.Refused s) path = ascii "REFUSE steps " ++ decimal s
+words (reply.Exhausted s) path = ascii "EXHAUSTED steps " ++ decimal s
+words (reply.Error e) path = ascii "ERROR " ++ decimal e
 
 abbrev pub newline : List ℕ
 newline = 10 ∷ []
@@ -32,14 +34,14 @@ numberOf p = p .0
 unfoldable pub placesShown : Path → List ℕ
 placesShown p = map numberOf (take (p .length) (p .places))
 
--- the line for what is told, with a path's places
-unfoldable pub toldLine : Told → List ℕ → List ℕ
-toldLine t path = wordsFor (t .number) (t .root) (t .steps) path ++ newline
-
 -- the line for an answer
 abbrev pub lineOf : Answer → List ℕ
-lineOf a = toldLine (told (a .reply)) (placesShown (a .path))
+lineOf a = words (a .reply) (placesShown (a .path)) ++ newline
+
+-- an acceptance with steps of 20 digits, and a root and a full path of three digits each
+abbrev pub lineMost : ℕ
+lineMost = 48 + 4 * bundleMost
 
 -- bytes as a line is handed out: zeros past them, and how many they are
 unfoldable pub lineShown : List ℕ → Line
-lineShown l = record { bytes = l ++ replicate (112 - length l) 0; length = length l }
+lineShown l = record { bytes = l ++ replicate (lineMost - length l) 0; length = length l }

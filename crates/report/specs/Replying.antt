@@ -5,16 +5,17 @@ use Prim.Native.Nat.{ℕ}
 use lib.ListN.{replicate}
 use Rattle.card.specs.Content.{Content}
 use Rattle.fields.specs.Fields.{Parsed}
+use Rattle.reply.specs.declared.Answer.{Answer}
+use Rattle.reply.specs.declared.Reply.the-variants.{Error}
+use Rattle.reply.specs.Room.{roomMost}
 use Rattle.search.specs.Search.{Search}
-use Rattle.steps.specs.declared.Answer.{Answer}
-use Rattle.steps.specs.Answer.{told}
 use Rattle.report.specs.Lines.{lineOf, lineShown}
 use Rattle.report.specs.declared.line.Line.{Line}
 
--- the line for a file that says x: what the search answers in a room of 106 slots, which are always enough
+-- the line for a file that says x: what the search answers in a room that is always enough
 pub record Replies (x : Parsed Content) (line : Line) : Type 0 where
   pub answer : Answer
   pub after : List ℕ
-  pub searched : Search x (replicate 1802 0) after answer
-  pub roomy : told (answer .reply) .number ≡ 10 → ⊥
+  pub searched : Search x (replicate roomMost 0) after answer
+  pub roomy : answer .reply ≡ Error 10 → ⊥
   pub written : line ≡ lineShown (lineOf answer)

@@ -1,22 +1,21 @@
 -- What the places of a row are, for those who keep sets in rows.
 -- One place: `has-at`, `has-past`, `joined-at`, `joined-past` by its number, then `has-none`, `has-joined`, `has-left`, `has-common`, `has-either` for what makes a row.
 -- The row of a test: `has-row`; `row-none`, `row-more`, `row-kept` for a loop.
--- The first that passes a test: `seek-least` says in words what it is.
 -- The lowest place: `lowest-least`. A row without one of its places: `has-dropped`. A loop over a row's places is in Taking, the
 -- highest place in Upper; that a row is no more than its places, in Same.
 -- What the code's words say of a row is in Words. Assumes nothing.
 use Prim.Native.Nat.{ℕ, zero, suc, _+_, _/_, _%_, _^_, _≤_, _<_}
 use mathlib.Core.Bool.{Bool, true, false, cond, not, _&&_, _||_, false≢true}
-use mathlib.Core.Logic.{⊎-elim}
 use mathlib.Core.Path.{_≡_, refl, sym, ap, _∙_}
-use native.Mathlib.Nat.{pow-zero, pow-suc, div-one, div-eq-of-lt, mul-div-mul-right, mul-mod-left, mod-lt, zero-div, eq-or-lt-of-le}
+use native.Mathlib.Nat.{pow-zero, pow-suc, div-one, div-eq-of-lt, mul-div-mul-right, mul-mod-left, mod-lt, zero-div}
 use native.Mathlib.Numerals.{add-one}
 use native.Mathlib.Omega.{arith}
 use borrow.Author.Tests.{ltb-true, ltb-false, eqb-true, lt-ltb, le-ltb, eq-eqb}
 use lib.Bits.{bitOr, bitAnd, bitXor, or-shr, or-mod, xor-shr, xor-mod, and-shr, and-mod}
 use lib.Dec.{eqb, ltb, lit<, eqb·zero-suc, eqb·suc-zero, eqb·suc-suc}
 use lib.Pow.{pow-lt}
-use Rattle.rows.specs.Rows.{has, joined, left, common, either, seek, lowest, rowOf}
+use Rattle.places.proofs.Lowest.{Least, seek-least}
+use Rattle.rows.specs.Rows.{has, joined, left, common, either, lowest, rowOf}
 
 -- ---- a number's digits
 
@@ -195,28 +194,6 @@ module _ (test : ℕ → Bool) where
           → has i (cond b (joined (rowOf test n) n) (rowOf test n)) ≡ ltb i (suc n) && test i
       go true e r = has-joined i (rowOf test n) n ∙ rw (r, lt-ltb n 64 (omega arith)) (wider n i e)
       go false e r = r ∙ same-width n i e
-
--- ---- the first that passes a test
-
--- r is the first number from a on, of n, that passes a test, or the one past them where none does
-pub record Least (test : ℕ → Bool) (a n r : ℕ) : Type 0 where
-  pub from : a ≤ r
-  pub within : r ≤ a + n
-  pub below : (i : ℕ) → a ≤ i → i < r → test i ≡ false
-  pub passes : r < a + n → test r ≡ true
-
-module _ (test : ℕ → Bool) where
-  pub seek-least : (a n : ℕ) → Least test a n (seek test a n)
-  unfolding seek
-  seek-least a zero = record { from = omega arith; within = omega arith; below = λ i h k. absurd (omega arith); passes = λ h. absurd (omega arith) }
-  seek-least a (suc n) = go (test a) refl (seek test (a + 1) n) (seek-least (a + 1) n)
-    where
-      go : (b : Bool) → test a ≡ b → (r : ℕ) → Least test (a + 1) n r → Least test a (suc n) (cond b a r)
-      go true e r l = record { from = omega arith; within = omega arith; below = λ i h k. absurd (omega arith); passes = λ h. e }
-      go false e r l = record { from = omega arith; within = omega arith; below = below; passes = λ h. l .passes (omega arith) }
-        where
-          below : (i : ℕ) → a ≤ i → i < r → test i ≡ false
-          below i h k = ⊎-elim (λ q. ap test (sym q) ∙ e) (λ p. l .below i (omega arith) k) (eq-or-lt-of-le h)
 
 -- ---- the lowest place
 

@@ -8,7 +8,8 @@ use lib.Bits.{bitOr, bitAnd, and-mask}
 use lib.Count.{trailingZeros, under, trailing-le}
 use lib.Dec.{eqb, lit<}
 use lib.Pow.{shr-shr, shl-exact}
-use Rattle.rows.specs.Rows.{has, joined, seek, lowest}
+use Rattle.places.specs.Lowest.{seek}
+use Rattle.rows.specs.Rows.{has, joined, lowest}
 use Rattle.rows.proofs.Places.{has-at, joined-at}
 
 -- a digit is 1 where it is not 0

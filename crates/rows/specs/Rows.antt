@@ -1,10 +1,11 @@
 -- A set of places as the bits of a number. Assumes nothing.
-use Prim.Native.Nat.{ℕ, zero, suc, _+_, _-_, _/_, _%_, _^_}
+use Prim.Native.Nat.{ℕ, zero, suc, _-_, _/_, _%_, _^_}
 use mathlib.Core.Bool.{Bool, cond, _&&_}
 use mathlib.Core.List.{List, [], _∷_, _++_}
 use lib.ListN.{replicate}
 use lib.Bits.{bitOr, bitAnd, bitXor}
 use lib.Dec.{eqb, ltb}
+use Rattle.places.specs.Lowest.{seek}
 
 -- place i stands in a row: bit i of the number, of 64
 unfoldable pub has : ℕ → ℕ → Bool
@@ -25,11 +26,6 @@ common row other = bitAnd row other
 -- the places that stand in one of two rows, or in both
 unfoldable pub either : ℕ → ℕ → ℕ
 either row other = bitOr row other
-
--- the first number from i on, of so many, that passes a test; the one past them where none does
-unfoldable pub seek : (ℕ → Bool) → ℕ → ℕ → ℕ
-seek test i zero = i
-seek test i (suc n) = cond (test i) i (seek test (i + 1) n)
 
 unfoldable pub lowest : ℕ → ℕ
 lowest row = seek (λ i. has i row) 0 64

@@ -17,10 +17,10 @@ module _ (s : List ℕ) (r : Record) (e : ℕ) (t : RecordRead s r e) where
   unfolding forServersAt forServers
   for-servers-read =
       let u = extensions-read-of s r e t .usages in
-      rw (extensions-of s r e t, says-usages s r e t, u .as-many, any-read serving usageP s 8 (t .extensions-are .usages) _ u)
+      rw (extensions-of s r e t, says-usages s r e t, u .as-many, any-read serving usageP s _ (t .extensions-are .usages) _ u)
 
   pub for-host-read : (host : List ℕ) → forHostAt s host (extensionsOf (headOf r s .flags) r s .«dns_names») ≡ forHost host (certificateOf r s)
   unfolding forHostAt forHost
   for-host-read host =
       let d = extensions-read-of s r e t .dns-names in
-      rw (extensions-of s r e t, says-dns-names s r e t, any-read (names host) dnsNameP s 32 (t .extensions-are .«dns_names») _ d)
+      rw (extensions-of s r e t, says-dns-names s r e t, any-read (names host) dnsNameP s _ (t .extensions-are .«dns_names») _ d)

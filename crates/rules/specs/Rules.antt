@@ -10,10 +10,15 @@ use Rattle.text.specs.Bytes.{lowered, same}
 use Rattle.text.specs.Each.{any}
 use Rattle.text.specs.Wildcard.{matchName}
 use Rattle.record.specs.Certificate.{Certificate}
+use Rattle.rules.specs.declared.rules.Time.{Time}
 
--- not-before ≤ now ≤ not-after
-unfoldable pub inDate : ℕ → Certificate → Bool
-inDate now c = leb (c .not-before) now && leb now (c .not-after)
+-- certificates are judged at now
+unfoldable pub at : ℕ → Time
+at now = record { now = now }
+
+-- not-before ≤ now ≤ not-after: of all that is asked this alone opens the time
+unfoldable pub inDate : Time → Certificate → Bool
+inDate time c = leb (c .not-before) (time .now) && leb (time .now) (c .not-after)
 
 -- version 2 and equal algorithm strings
 unfoldable pub wellFormed : Certificate → Bool

@@ -5,6 +5,7 @@ mod rules;
 
 pub use leaf::for_host;
 pub use leaf::for_servers;
+pub use rules::Time;
 pub use rules::authority;
 pub use rules::handled;
 pub use rules::in_date;

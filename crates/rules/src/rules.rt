@@ -8,17 +8,30 @@ ghost use mathlib.Core.Path.{_≡_};
 ghost use Prim.Native.Nat.{ℕ};
 ghost use Rattle.record.specs.Certificate.{certificateBy};
 ghost use Rattle.record.specs.declared.Record.{Record};
-ghost use Rattle.rules.specs.Rules.{inDate, wellFormed, handled, authority};
+ghost use Rattle.rules.specs.Rules.{at, inDate, wellFormed, handled, authority};
 ghost use Rattle.rules.specs.Limits.{limitOf};
 
-// Not before and not after, at a time that is given.
-pub fn in_date(time: u64, head: Head) -> bool
+// When certificates are judged.
+pub struct Time {
+    now: u64,
+}
+
+impl Time {
+    pub fn at(now: u64) -> Time
+        ensures { λ r. ⌜ r ≡ at now ⌝ }
+    {
+        Time { now }
+    }
+}
+
+// Not before and not after.
+pub fn in_date(time: Time, head: Head) -> bool
     ensures { λ r. ⌜ ((cert : Record) (s : List ℕ) → r ≡ inDate time (certificateBy head cert s)) ⌝ }
 {
-    if time < head.not_before {
+    if time.now < head.not_before {
         return false;
     }
-    time <= head.not_after
+    time.now <= head.not_after
 }
 
 // X.509 v3, and the algorithm inside the signature is the one outside it.

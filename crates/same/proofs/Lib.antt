@@ -1,7 +1,10 @@
 pub mod Asked
 pub mod Compared
 pub mod Frauds
+pub mod Members
 pub mod Pinned
+pub mod Rows
 pub mod Spans
+pub mod Standing
 pub mod Upstream
 pub mod Walks

@@ -1,6 +1,6 @@
 -- Two things walked side by side: whether the walk came through (`walk-both`), a loop that counts two rows down (`walk-none`,
--- `walk-on`, `walk-differs`), rows with their counts before them (`counted-same`, `counted-uneven`, and where a count can't be
--- read), each for any element, relation and reader. Assumes nothing.
+-- `walk-on`, `walk-differs`), rows with their counts before them (`counted-passes`, `counted-fails`, `counted-same`, and where a count
+-- can't be read), each for any element, relation, test of the lengths and reader. Assumes nothing.
 use Prim.Native.Nat.{ℕ, zero, suc, _-_, _<_, _≤_}
 use mathlib.Core.Path.{_≡_, refl, sym, _∙_}
 use mathlib.Core.Bool.{Bool, true, false, cond, _&&_}
@@ -8,7 +8,7 @@ use mathlib.Core.List.{List, _∷_}
 use native.Mathlib.Omega.{arith}
 use lib.ListN.{length}
 use lib.Dec.{eqb}
-use borrow.Author.Tests.{eq-eqb, ne-eqb}
+use borrow.Author.Tests.{eq-eqb}
 use Rattle.fields.specs.Fields.{Parsed, got, stop, after, countP, many, countedP}
 use Rattle.fields.proofs.Many.{many-length}
 use Rattle.same.specs.Same.{places}
@@ -88,16 +88,16 @@ module _ {A : Type 0} (q : A → A → Bool) where
         → walk (places q) (many p n s at) (many p n t bt) ≡ Differ
     walk-differs n at bt h w = walk-some n at bt h ∙ rw w
 
--- ---- rows that have to be equally long
+-- ---- rows whose lengths are tested
 
--- as many, and related place by place
-abbrev pub asMany : {A : Type 0} → (A → A → Bool) → List A → List A → Bool
-asMany q a b = eqb (length a) (length b) && places q a b
+-- the lengths pass, and the rows are related
+abbrev pub tested : {A : Type 0} → (ℕ → ℕ → Bool) → (List A → List A → Bool) → List A → List A → Bool
+tested test q a b = test (length a) (length b) && q a b
 
-module _ {A : Type 0} (q : A → A → Bool) (p : List ℕ → ℕ → Parsed A) (s t : List ℕ) where
+module _ {A : Type 0} (test : ℕ → ℕ → Bool) (q : List A → List A → Bool) (p : List ℕ → ℕ → Parsed A) (s t : List ℕ) where
   -- rows that were read with the counts n and m, and what the test of their lengths comes to
-  by-length : (n m at bt : ℕ) (u : Bool) → eqb n m ≡ u → (x y : Parsed (List A)) → many p n s at ≡ x → many p m t bt ≡ y
-      → walk (asMany q) x y ≡ cond u (walk (places q) x y) Differ
+  by-length : (n m at bt : ℕ) (u : Bool) → test n m ≡ u → (x y : Parsed (List A)) → many p n s at ≡ x → many p m t bt ≡ y
+      → walk (tested test q) x y ≡ cond u (walk q x y) Differ
   by-length n m at bt true h (got a e) (got b f) i j = rw (many-length p s n at a e i, many-length p t m bt b f j, h)
   by-length n m at bt false h (got a e) (got b f) i j = rw (many-length p s n at a e i, many-length p t m bt b f j, h)
   by-length n m at bt true h (got a e) (stop r) i j = refl
@@ -105,24 +105,26 @@ module _ {A : Type 0} (q : A → A → Bool) (p : List ℕ → ℕ → Parsed A)
   by-length n m at bt true h (stop r) y i j = refl
   by-length n m at bt false h (stop r) y i j = refl
 
-  walk-even : (n at bt : ℕ) → walk (asMany q) (many p n s at) (many p n t bt) ≡ walk (places q) (many p n s at) (many p n t bt)
-  walk-even n at bt = by-length n n at bt true (eq-eqb n n refl) _ _ refl refl
-
-  walk-uneven : (n m at bt : ℕ) → (n ≡ m → ⊥) → walk (asMany q) (many p n s at) (many p m t bt) ≡ Differ
-  walk-uneven n m at bt h = by-length n m at bt false (ne-eqb n m h) _ _ refl refl
-
   -- ---- with their counts before them
 
-  module _ (least most at bt : ℕ) where
-    pub counted-same : (n m e f : ℕ) → countP least most s at ≡ got n e → countP least most t bt ≡ got m f → n ≡ m
-        → walk (asMany q) (countedP least most p s at) (countedP least most p t bt) ≡ walk (places q) (many p n s e) (many p n t f)
+  module _ (least most at bt n m e f : ℕ) (h : countP least most s at ≡ got n e) (k : countP least most t bt ≡ got m f) where
+    pub counted-passes : test n m ≡ true
+        → walk (tested test q) (countedP least most p s at) (countedP least most p t bt)
+        ≡ walk q (countedP least most p s at) (countedP least most p t bt)
     unfolding countedP
-    counted-same n m e f h k i = rw (h, k, ← i) (walk-even n e f)
+    counted-passes i = rw (h, k) (by-length n m e f true i _ _ refl refl)
 
-    pub counted-uneven : (n m e f : ℕ) → countP least most s at ≡ got n e → countP least most t bt ≡ got m f → (n ≡ m → ⊥)
-        → walk (asMany q) (countedP least most p s at) (countedP least most p t bt) ≡ Differ
+    pub counted-fails : test n m ≡ false → walk (tested test q) (countedP least most p s at) (countedP least most p t bt) ≡ Differ
     unfolding countedP
-    counted-uneven n m e f h k i = rw (h, k) (walk-uneven n m e f i)
+    counted-fails i = rw (h, k) (by-length n m e f false i _ _ refl refl)
+
+-- as many, from the places past their counts on
+pub counted-same : {A : Type 0} (q : List A → List A → Bool) (p : List ℕ → ℕ → Parsed A) (s t : List ℕ) (least most at bt n m e f : ℕ)
+    → countP least most s at ≡ got n e → countP least most t bt ≡ got m f → n ≡ m
+    → walk (tested eqb q) (countedP least most p s at) (countedP least most p t bt) ≡ walk q (many p n s e) (many p n t f)
+unfolding countedP
+counted-same q p s t least most at bt n m e f h k i =
+    counted-passes eqb q p s t least most at bt n m e f h k (eq-eqb n m i) ∙ rw (h, k, ← i)
 
 -- ---- a count that can't be read, whatever relates the rows
 

@@ -123,7 +123,7 @@ fn attrs_walk(s: &[u8], at: usize, t: &[u8], bt: usize, n: usize, normalise: boo
 }
 
 // The attributes at two places.
-pub fn attr_walk(s: &[u8], at: usize, t: &[u8], bt: usize, normalise: bool) -> Walk
+pub(crate) fn attr_walk(s: &[u8], at: usize, t: &[u8], bt: usize, normalise: bool) -> Walk
     ensures { λ r. ⌜ r ≡ walk (sameAttr normalise) (attrP (now (s .entry)) at) (attrP (now (t .entry)) bt) ⌝ }
 {
     let AttributeAt::Got(a) = attribute_at(s, at) else {

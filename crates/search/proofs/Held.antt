@@ -9,25 +9,27 @@ use Rattle.card.specs.Content.{Content, contentP}
 use Rattle.order.specs.Slots.{slotsOf}
 use Rattle.order.specs.Waiting.{After}
 use Rattle.order.proofs.Waiting.{after-unique}
-use Rattle.steps.specs.declared.Answer.{Answer}
-use Rattle.steps.specs.Answer.{told, saying, Paused, fault}
-use Rattle.steps.specs.Room.{Holds, holding}
-use Rattle.steps.specs.Settles.{Outcome, accepted, refused, exhausted, steps}
-use Rattle.search.specs.Search.{placesIn, rootsIn, Pause}
+use Rattle.reply.specs.declared.Answer.{Answer}
+use Rattle.reply.specs.Answer.{told, saying, Paused, fault}
+use Rattle.reply.specs.Room.{Holds, holding}
+use Rattle.reply.specs.Settles.{Outcome, accepted, refused, exhausted, steps}
+use Rattle.question.specs.Asked.{placesIn, rootsIn}
+use Rattle.rules.specs.Rules.{at}
+use Rattle.search.specs.Search.{Pause}
 
-steps-said : (o : Outcome) → saying o .steps ≡ steps o
-steps-said (accepted p r s) = refl
-steps-said (refused s) = refl
-steps-said (exhausted s) = refl
+steps-told : (o : Outcome) → told (saying o) .steps ≡ steps o
+steps-told (accepted p r s) = refl
+steps-told (refused s) = refl
+steps-told (exhausted s) = refl
 
 module _ (s before after : List ℕ) (k : ℕ) (a : Answer) (x : Pause (contentP s) k before after a)
     (c : Content) (e : ℕ) (says : contentP s ≡ got c e) (free : fault (length (c .bundle)) (length before) ≡ 0)
   where
-    runs : Paused (placesIn c) (rootsIn c) k before after a
+    runs : Paused (placesIn c) (rootsIn c (at (c .now))) k before after a
     runs = (rw says at x) .runs free
 
     holds : Holds (placesIn c) (told (a .reply) .steps) before after
-    holds = rw (runs .tells .says, steps-said (runs .outcome)) (runs .holds)
+    holds = rw (runs .tells .says, steps-told (runs .outcome)) (runs .holds)
 
     module _ (ws : List (List ℕ)) (wait : After (placesIn c) (told (a .reply) .steps) ws) where
       same : holds .waiting ≡ ws

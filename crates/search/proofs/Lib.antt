@@ -1,5 +1,4 @@
 pub mod Asked
 pub mod Held
-pub mod Meaning
 pub mod One
 pub mod Valid

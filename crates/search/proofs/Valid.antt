@@ -14,11 +14,13 @@ use Rattle.order.specs.Listing.{_among_, Sorted, nil, cons}
 use Rattle.order.specs.Paths.{Linked, Simple, Count, last}
 use Rattle.order.proofs.Simple.{last-at}
 use Rattle.policy.specs.Policy.{policy, chainOf}
-use Rattle.steps.specs.declared.Answer.{Answer}
-use Rattle.steps.specs.Answer.{told, saying, Searched, fault}
-use Rattle.steps.specs.Settles.{QualifiesBy, Outcome, accepted, refused, exhausted, Settles}
-use Rattle.steps.proofs.Unique.{covers}
-use Rattle.search.specs.Search.{placesIn, rootsIn, Search}
+use Rattle.reply.specs.declared.Answer.{Answer}
+use Rattle.reply.specs.Answer.{told, saying, Searched, fault}
+use Rattle.reply.specs.Settles.{QualifiesBy, Outcome, accepted, refused, exhausted, Settles}
+use Rattle.reply.proofs.Unique.{covers}
+use Rattle.question.specs.Asked.{placesIn, rootsIn}
+use Rattle.rules.specs.Rules.{at as timeAt}
+use Rattle.search.specs.Search.{Search}
 use Rattle.search.specs.Valid.{at, SimplePath, ToRoot, Satisfies, Valid}
 
 -- ---- places of a path by their number
@@ -88,32 +90,32 @@ module _ (c : Content) where
   both true false h = absurd (false≢true h)
   both false b h = absurd (false≢true h)
 
-  to-root : (p : List ℕ) (r : ℕ) → Simple (placesIn c) p → QualifiesBy (rootsIn c) p r → ToRoot c p r × Satisfies c p r
+  to-root : (p : List ℕ) (r : ℕ) → Simple (placesIn c) p → QualifiesBy (rootsIn c (timeAt (c .now))) p r → ToRoot c p r × Satisfies c p r
   to-root [] r s x = absurd (false≢true (x .1))
   to-root (y ∷ l) r s x =
-      let (i, j) = both (issued c (root r) (last y l)) (policy (c .now) (c .host) (chainOf c y l r)) (x .1) in
+      let (i, j) = both (issued c (root r) (last y l)) (policy (timeAt (c .now)) (c .host) (chainOf c y l r)) (x .1) in
       (record { there = x .0; simple = to-upstream (y ∷ l) s; issues = rw (← last-at y l) i }, j)
 
-  from-root : (p : List ℕ) (r : ℕ) → ToRoot c p r → Satisfies c p r → QualifiesBy (rootsIn c) p r
+  from-root : (p : List ℕ) (r : ℕ) → ToRoot c p r → Satisfies c p r → QualifiesBy (rootsIn c (timeAt (c .now))) p r
   from-root [] r x y = absurd y
   from-root (z ∷ l) r x y =
       let i : issued c (root r) (last z l) ≡ true = rw (last-at z l) (x .issues) in
       (x .there, rw (i, y))
 
   module _ (n : ℕ) (all : Count (placesIn c) n) (enough : n ≤ c .budget) where
-    settled : (o : Outcome) → Settles (placesIn c) (rootsIn c) (c .budget) o → (saying o .number ≡ 0) ↔ Valid c
+    settled : (o : Outcome) → Settles (placesIn c) (rootsIn c (timeAt (c .now))) (c .budget) o → (told (saying o) .number ≡ 0) ↔ Valid c
     settled (accepted p r s) a =
         let some : 0 < length (c .bundle) = let (l, e) = a .simple .start in a .simple .inside 0 (rw e (here refl)) in
         let (x, y) = to-root p r (a .simple) (a .qualifies) in
         (λ _. (some, (p, r, x, y)), λ _. refl)
     settled (refused s) a =
         (λ e. absurd (omega arith), λ v. let (p, r, x, y) = v .1 in absurd (a .none p (from-upstream p (x .simple)) (r, from-root p r x y)))
-    settled (exhausted s) a = absurd (covers (placesIn c) (rootsIn c) (c .budget) all enough s a)
+    settled (exhausted s) a = absurd (covers (placesIn c) (rootsIn c (timeAt (c .now))) (c .budget) all enough s a)
 
-    never-exhausted : (o : Outcome) → Settles (placesIn c) (rootsIn c) (c .budget) o → (saying o .number ≡ 0) ⊎ (saying o .number ≡ 1)
+    never-exhausted : (o : Outcome) → Settles (placesIn c) (rootsIn c (timeAt (c .now))) (c .budget) o → (told (saying o) .number ≡ 0) ⊎ (told (saying o) .number ≡ 1)
     never-exhausted (accepted p r s) a = inl refl
     never-exhausted (refused s) a = inr refl
-    never-exhausted (exhausted s) a = absurd (covers (placesIn c) (rootsIn c) (c .budget) all enough s a)
+    never-exhausted (exhausted s) a = absurd (covers (placesIn c) (rootsIn c (timeAt (c .now))) (c .budget) all enough s a)
 
 -- ---- of a file that can be read, with room enough and a budget that covers all n simple paths
 
@@ -121,7 +123,7 @@ module _ (s before after : List ℕ) (a : Answer) (x : Search (contentP s) befor
     (c : Content) (e : ℕ) (says : contentP s ≡ got c e) (free : fault (length (c .bundle)) (length before) ≡ 0)
     (n : ℕ) (all : Count (placesIn c) n) (enough : n ≤ c .budget)
   where
-    runs : Searched (placesIn c) (rootsIn c) (c .budget) before after a
+    runs : Searched (placesIn c) (rootsIn c (timeAt (c .now))) (c .budget) before after a
     runs = (rw says at x) .runs free
 
     pub accepted-valid : (told (a .reply) .number ≡ 0) ↔ Valid c

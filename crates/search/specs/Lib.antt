@@ -1,3 +1,2 @@
 pub mod Search
-pub mod Question
 pub mod Valid

@@ -9,6 +9,7 @@ use lib.ListN.{length, getD}
 use Rattle.card.specs.Content.{Content, root, bundled}
 use Rattle.issuing.specs.Issued.{issued}
 use Rattle.policy.specs.Policy.{policy, chainOf}
+use Rattle.rules.specs.Rules.{at as timeAt}
 
 -- place i of a path
 abbrev pub at : List ℕ → ℕ → ℕ
@@ -31,7 +32,7 @@ pub record ToRoot (c : Content) (p : List ℕ) (r : ℕ) : Type 0 where
 -- path_satisfies_policy
 abbrev pub Satisfies : Content → List ℕ → ℕ → Type 0
 Satisfies c [] r = ⊥
-Satisfies c (x ∷ l) r = policy (c .now) (c .host) (chainOf c x l r) ≡ true
+Satisfies c (x ∷ l) r = policy (timeAt (c .now)) (c .host) (chainOf c x l r) ≡ true
 
 -- valid
 abbrev pub Valid : Content → Type 0

@@ -6,6 +6,7 @@ use Prim.Native.Nat.{ℕ, suc, _+_, _≤_, _<_, zero-le}
 use native.Mathlib.Numerals.{add-one}
 use native.Mathlib.Omega.{arith}
 use lib.ListN.{length, take, set, length-append, length-take}
+use Rattle.places.specs.Limits.{bundleMost}
 use Rattle.order.specs.Paths.{Places}
 use Rattle.order.specs.Slots.{slotsOf}
 use Rattle.order.specs.Waiting.{Waiting}
@@ -15,16 +16,16 @@ use Rattle.order.proofs.Stack.{stack-waits}
 use Rattle.order.proofs.Waiting.{waiting-step, waiting-end, stack-taken, stack-after}
 use Rattle.order.proofs.Tree.{paths-listing}
 use Rattle.rows.specs.Rows.{highest}
-use Rattle.steps.specs.declared.Reply.the-variants as reply
-use Rattle.steps.specs.declared.Answer.{Answer}
-use Rattle.steps.specs.Answer.{told, pathShown, Tells, Paused, Searched}
+use Rattle.reply.specs.declared.Reply.the-variants as reply
+use Rattle.reply.specs.declared.Answer.{Answer}
+use Rattle.reply.specs.Answer.{pathShown, Tells, Paused, Searched}
 use Rattle.steps.specs.declared.walk.End.{End}
 use Rattle.steps.specs.declared.walk.Level.{Level}
 use Rattle.steps.specs.Parts.{waiting, Vain, Ends, Stopped}
-use Rattle.steps.specs.Room.{holding}
-use Rattle.steps.specs.Settles.{Roots, QualifiesBy, Qualifies, Outcome, accepted, refused, exhausted, Settles, steps}
+use Rattle.reply.specs.Room.{holding}
+use Rattle.reply.specs.Settles.{Roots, QualifiesBy, Qualifies, Outcome, accepted, refused, exhausted, Settles, steps}
 use Rattle.steps.proofs.Levels.{Stands, closed, over-all, met}
-use Rattle.steps.proofs.Settled.{Barren, accepts, refuses, exhausts}
+use Rattle.reply.proofs.Settled.{Barren, accepts, refuses, exhausts}
 
 -- ---- from any stack
 
@@ -71,7 +72,7 @@ module _ {g : Places} {w : Roots} {st : List (List ℕ)} {k : ℕ} (U : Vain g w
   -- p was taken in the step before
   pub stop-accepted : {seats ahead : List ℕ} {levels : List Level} {place : List ℕ} {row : ℕ} {here : Level} {d : ℕ} → Stands g seats st ahead levels place row here d (k + 1)
       → {p : List ℕ} → top (pops g k st) ≡ p ∷ [] → {budget : ℕ} → k < budget → {r : ℕ} → QualifiesBy w p r × ((i : ℕ) → QualifiesBy w p i → r ≤ i)
-      → {len : ℕ} → len ≤ 16 → take len place ≡ p
+      → {len : ℕ} → len ≤ bundleMost → take len place ≡ p
       → Stopped g (Ends g w budget st) st (record { reply = reply.Accepted (record { 0 = r }) (k + 1); len = len; place = place; ahead = set ahead d row; depths = d + 1 })
   stop-accepted S {p} e b {r} (q, low) short shows = record {
     outcome = accepted p r (k + 1);
@@ -119,14 +120,14 @@ module _ (g : Places) (some : 0 < g .size) (w : Roots) where
 
 -- ---- what is answered, and what is left in the room
 
-module _ {g : Places} (some : 0 < g .size) (few : g .size ≤ 16) {w : Roots} {k : ℕ} {e : End} (S : Stopped g (Settles g w k) ((0 ∷ []) ∷ []) e)
+module _ {g : Places} (some : 0 < g .size) (few : g .size ≤ bundleMost) {w : Roots} {k : ℕ} {e : End} (S : Stopped g (Settles g w k) ((0 ∷ []) ∷ []) e)
   where
     pub stopped-fits : length (waiting (g .size) (e .ahead) (e .place) (e .depths)) ≤ slotsOf (g .size)
     stopped-fits = rw (S .left) (after-fits g few (stack-after g some (steps (S .outcome))))
 
     module _ {a : Answer} (replies : a .reply ≡ e .reply) (shows : a .path ≡ pathShown (take (e .len) (e .place))) where
       tells : Tells g w k a (S .outcome)
-      tells = record { settled = S .ends; says = ap told replies ∙ S .says; shows = shows ∙ ap pathShown (S .shows) }
+      tells = record { settled = S .ends; says = replies ∙ S .says; shows = shows ∙ ap pathShown (S .shows) }
 
       pub stopped-paused : {before after : List ℕ} → after ≡ holding (g .size) (waiting (g .size) (e .ahead) (e .place) (e .depths)) before → Paused g w k before after a
       stopped-paused q = record {

@@ -7,46 +7,52 @@ use Prim.Native.Nat.{ℕ, _≤_}
 use native.Mathlib.Omega.{arith}
 use borrow.Author.Tests.{ltb-true, lt-ltb}
 use lib.Dec.{ltb}
-use Rattle.issuing.specs.declared.Issuing.{Issuing}
-use Rattle.order.specs.Paths.{Simple, last}
+use Rattle.places.specs.Limits.{bundleMost, rootsMost}
+use Rattle.order.specs.Paths.{Places, Simple, last}
 use Rattle.order.proofs.Simple.{last-among, simple-length}
 use Rattle.policy.specs.Standing.{Seated}
 use Rattle.policy.specs.declared.judged.Judged.{Judged}
 use Rattle.policy.proofs.Qualifying.{roots-qualify}
 use Rattle.steps.specs.declared.walk.End.{End}
-use Rattle.steps.specs.Answer.{placesOf, rootsOf}
-use Rattle.steps.specs.Parts.{rootsBy, Ends, Stopped}
-use Rattle.steps.specs.Settles.{QualifiesBy, Settles}
-use Rattle.steps.proofs.Agree.{settles-agree}
+use Rattle.question.specs.Question.{placesBy, rootsBy}
+use Rattle.steps.specs.Parts.{rootsSeated, Ends, Stopped}
+use Rattle.reply.specs.Settles.{Roots, QualifiesBy, Settles}
+use Rattle.reply.proofs.Agree.{settles-agree}
 use Rattle.steps.proofs.Ends.{ends-settles}
 
-module _ (issuing : Issuing) (judged : Judged) (n : ℕ) (some : 1 ≤ n) (few : n ≤ 16) (seats : List ℕ) (seated : Seated judged seats) where
-  good-same : (p : List ℕ) (r : ℕ) → Simple (placesOf issuing n) p → rootsBy (issuing .roots) seats .good p r ≡ ltb r 32 && rootsOf issuing judged .good p r
+module _ (judged : Judged) (n : ℕ) (some : 1 ≤ n) (few : n ≤ bundleMost) (seats : List ℕ) (seated : Seated judged seats) where
+  abbrev places : Places
+  places = placesBy (judged .issuing .bundle) n
+
+  abbrev seated-roots : Roots
+  seated-roots = rootsSeated (judged .issuing .roots) seats
+
+  good-same : (p : List ℕ) (r : ℕ) → Simple places p → seated-roots .good p r ≡ ltb r rootsMost && rootsBy judged .good p r
   good-same p r s = from-leaf (s .start .0) (s .start .1)
     where
-      from-leaf : (l : List ℕ) → p ≡ 0 ∷ l → rootsBy (issuing .roots) seats .good p r ≡ ltb r 32 && rootsOf issuing judged .good p r
+      from-leaf : (l : List ℕ) → p ≡ 0 ∷ l → seated-roots .good p r ≡ ltb r rootsMost && rootsBy judged .good p r
       from-leaf l e =
-          let s′ : Simple (placesOf issuing n) (0 ∷ l) = rw e at s in
+          let s′ : Simple places (0 ∷ l) = rw e at s in
           let k = s′ .inside (last 0 l) (last-among 0 l) in
-          let h = simple-length (placesOf issuing n) s′ in
-          rw e (roots-qualify judged (issuing .roots) seats seated 0 l (omega arith) (omega arith) (omega arith) r)
+          let h = simple-length places s′ in
+          rw e (roots-qualify judged seats seated 0 l (omega arith) (omega arith) (omega arith) r)
 
-  to : (p : List ℕ) (r : ℕ) → Simple (placesOf issuing n) p → QualifiesBy (rootsBy (issuing .roots) seats) p r → QualifiesBy (rootsOf issuing judged) p r
-  to p r s (h, e) = both (ltb r 32) (rootsOf issuing judged .good p r) refl refl (sym (good-same p r s) ∙ e)
+  to : (p : List ℕ) (r : ℕ) → Simple places p → QualifiesBy seated-roots p r → QualifiesBy (rootsBy judged) p r
+  to p r s (h, e) = both (ltb r rootsMost) (rootsBy judged .good p r) refl refl (sym (good-same p r s) ∙ e)
     where
-      both : (a b : Bool) → ltb r 32 ≡ a → rootsOf issuing judged .good p r ≡ b → a && b ≡ true → QualifiesBy (rootsOf issuing judged) p r
-      both true b x y q = (ltb-true r 32 x, y ∙ q)
+      both : (a b : Bool) → ltb r rootsMost ≡ a → rootsBy judged .good p r ≡ b → a && b ≡ true → QualifiesBy (rootsBy judged) p r
+      both true b x y q = (ltb-true r rootsMost x, y ∙ q)
       both false b x y q = absurd (false≢true q)
 
-  from : (p : List ℕ) (r : ℕ) → Simple (placesOf issuing n) p → QualifiesBy (rootsOf issuing judged) p r → QualifiesBy (rootsBy (issuing .roots) seats) p r
-  from p r s (h, e) = (omega arith, good-same p r s ∙ rw (lt-ltb r 32 h, e))
+  from : (p : List ℕ) (r : ℕ) → Simple places p → QualifiesBy (rootsBy judged) p r → QualifiesBy seated-roots p r
+  from p r s (h, e) = (omega arith, good-same p r s ∙ rw (lt-ltb r rootsMost h, e))
 
   pub settled : {k : ℕ} {e : End}
-      → Stopped (placesOf issuing n) (Ends (placesOf issuing n) (rootsBy (issuing .roots) seats) k ((0 ∷ []) ∷ [])) ((0 ∷ []) ∷ []) e
-      → Stopped (placesOf issuing n) (Settles (placesOf issuing n) (rootsOf issuing judged) k) ((0 ∷ []) ∷ []) e
+      → Stopped places (Ends places seated-roots k ((0 ∷ []) ∷ [])) ((0 ∷ []) ∷ []) e
+      → Stopped places (Settles places (rootsBy judged) k) ((0 ∷ []) ∷ []) e
   settled {k} S = record {
     outcome = S .outcome;
-    ends = settles-agree to from k (S .outcome) (ends-settles (placesOf issuing n) some (rootsBy (issuing .roots) seats) k (S .outcome) (S .ends));
+    ends = settles-agree to from k (S .outcome) (ends-settles places some seated-roots k (S .outcome) (S .ends));
     says = S .says;
     short = S .short;
     long = S .long;

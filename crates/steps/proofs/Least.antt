@@ -1,4 +1,4 @@
--- The lowest root of a path: what it says of the path's roots, and that it is the lowest place of their row. Assumes nothing.
+-- The lowest root of a path is the lowest place of its row of roots. Assumes nothing.
 use mathlib.Core.Bool.{false≢true}
 use mathlib.Core.List.{List}
 use mathlib.Core.Path.{_≡_, sym, ap, _∙_}
@@ -6,19 +6,12 @@ use Prim.Native.Nat.{ℕ, _^_, _≤_, _<_}
 use native.Mathlib.Omega.{arith}
 use Rattle.policy.specs.Standing.{rootsOver}
 use Rattle.rows.specs.Rows.{has, lowest, highest}
-use Rattle.rows.proofs.Places.{Least, has-none, lowest-least}
+use Rattle.places.proofs.Lowest.{Least}
+use Rattle.reply.proofs.Least.{least-lowest}
+use Rattle.rows.proofs.Places.{has-none, lowest-least}
 use Rattle.rows.proofs.Upper.{highest-has, highest-place}
-use Rattle.steps.specs.Parts.{rootsBy}
-use Rattle.steps.specs.Settles.{Roots, QualifiesBy, Qualifies}
-
-module _ (w : Roots) {p : List ℕ} {r : ℕ} (l : Least (w .good p) 0 (w .count) r) where
-  pub least-lowest : (i : ℕ) → QualifiesBy w p i → r ≤ i
-  least-lowest i (h, e) = let k : ¬ (i < r) = λ k. false≢true (sym (l .below i (omega arith) k) ∙ e) in omega arith
-
-  pub least-none : w .count ≤ r → ¬ Qualifies w p
-  least-none h (i, (k, e)) = false≢true (sym (l .below i (omega arith) (omega arith)) ∙ e)
-
--- ---- the roots of a path as a row
+use Rattle.steps.specs.Parts.{rootsSeated}
+use Rattle.reply.specs.Settles.{QualifiesBy, Qualifies}
 
 -- a row that is not empty has its lowest place
 lowest-place : (row : ℕ) → 0 < row → row < 2 ^ 64 → lowest row < 64
@@ -28,12 +21,12 @@ lowest-place row h f =
     omega arith
 
 module _ (issued seats p : List ℕ) {row : ℕ} (is : row ≡ rootsOver issued seats p) where
-  row-least : Least (rootsBy issued seats .good p) 0 64 (lowest row)
+  row-least : Least (rootsSeated issued seats .good p) 0 64 (lowest row)
   row-least = rw is (lowest-least (rootsOver issued seats p))
 
   pub row-found : 0 < row → row < 2 ^ 64
-      → QualifiesBy (rootsBy issued seats) p (lowest row) × ((i : ℕ) → QualifiesBy (rootsBy issued seats) p i → lowest row ≤ i)
-  row-found h f = let l : lowest row < 64 = lowest-place row h f in ((l, row-least .passes (omega arith)), least-lowest (rootsBy issued seats) row-least)
+      → QualifiesBy (rootsSeated issued seats) p (lowest row) × ((i : ℕ) → QualifiesBy (rootsSeated issued seats) p i → lowest row ≤ i)
+  row-found h f = let l : lowest row < 64 = lowest-place row h f in ((l, row-least .passes (omega arith)), least-lowest (rootsSeated issued seats) row-least)
 
-  pub row-none : row ≡ 0 → ¬ Qualifies (rootsBy issued seats) p
+  pub row-none : row ≡ 0 → ¬ Qualifies (rootsSeated issued seats) p
   row-none z (i, (h, e)) = false≢true (sym (ap (has i) (sym is ∙ z) ∙ has-none i) ∙ e)

@@ -11,6 +11,7 @@ use borrow.Author.Tests.{eqb-true, eqb-false, ne-eqb, lt-ltb, le-ltb}
 use lib.Dec.{eqb, ltb}
 use lib.ListN.{length, take, getD, set, length-set}
 use lib.Seq.{length-take-le, take-set-le, take-suc-set, getD-set-same, getD-set-other}
+use Rattle.places.specs.Limits.{bundleMost}
 use Rattle.order.specs.Listing.{_among_}
 use Rattle.order.specs.Paths.{Places, Simple, last}
 use Rattle.order.specs.Walk.{put, keep, down, used, snoc, next, kids, pop, pops, top}
@@ -22,12 +23,12 @@ use Rattle.rows.proofs.Upper.{highest-has, highest-above, highest-none, highest
 use Rattle.policy.specs.Standing.{begun, over, addedAll, rootsOver}
 use Rattle.policy.specs.declared.standing.Standing.{Standing}
 use Rattle.policy.proofs.Adding.{standing-more, over-more}
+use Rattle.reply.proofs.Slots.{length-snoc}
 use Rattle.steps.specs.declared.walk.Depths.{Depths}
 use Rattle.steps.specs.declared.walk.Level.{Level}
-use Rattle.steps.specs.Answer.{placesBy}
+use Rattle.question.specs.Question.{placesBy}
 use Rattle.steps.specs.Parts.{offered, waiting, levelAt, LevelAfter, stackOf, Ready, onward}
 use Rattle.steps.proofs.Paths.{used-snoc}
-use Rattle.steps.proofs.Stack.{length-snoc}
 
 -- ---- the paths that a row offers
 
@@ -98,17 +99,17 @@ stackAt n ahead place d row = offered n row (take d place) ++ waiting n ahead pl
 
 -- k steps from the stack st lead to this state
 pub record Stands (g : Places) (seats : List ℕ) (st : List (List ℕ)) (ahead : List ℕ) (levels : List Level) (place : List ℕ) (row : ℕ) (here : Level) (d k : ℕ) : Type 0 where
-  pub few : g .size ≤ 16
-  pub la : length ahead ≡ 16
-  pub ll : length levels ≡ 16
-  pub lp : length place ≡ 16
-  pub deep : d < 16
+  pub few : g .size ≤ bundleMost
+  pub la : length ahead ≡ bundleMost
+  pub ll : length levels ≡ bundleMost
+  pub lp : length place ≡ bundleMost
+  pub deep : d < bundleMost
   pub level : LevelAfter (g .size) seats (take d place) row here
   pub each : (j : ℕ) → j < d → LevelAfter (g .size) seats (take j place) (getD ahead j 0) (levelAt levels j)
   pub stack : pops g k st ≡ stackAt (g .size) ahead place d row
   pub simple : (p : List ℕ) → p among pops g k st → Simple g p
 
-pub stands-start : {g : Places} {seats : List ℕ} {s : Depths} → g .size ≤ 16 → length (s .ahead) ≡ 16 → length (s .place) ≡ 16
+pub stands-start : {g : Places} {seats : List ℕ} {s : Depths} → g .size ≤ bundleMost → length (s .ahead) ≡ bundleMost → length (s .place) ≡ bundleMost
     → Ready g seats s → Stands g seats (stackOf (g .size) s) (s .ahead) (s .levels) (s .place) (getD (s .ahead) (s .depth) 0) (levelAt (s .levels) (s .depth)) (s .depth) 0
 stands-start {g} {seats} {s} few la lp r = record {
   few = few;
@@ -146,7 +147,7 @@ module _ (n : ℕ) (ahead place : List ℕ) (some : 1 ≤ n) (leaf : getD ahead 
       clash false = refl
 
   -- every place is free, and the path begins
-  pub first-ready : (seats : List ℕ) (levels : List Level) → levelAt levels 0 ≡ record { free = below n; standing = begun seats } → length levels ≡ 16 → n ≤ 16
+  pub first-ready : (seats : List ℕ) (levels : List Level) → levelAt levels 0 ≡ record { free = below n; standing = begun seats } → length levels ≡ bundleMost → n ≤ bundleMost
       → (rows : List ℕ) → Ready (placesBy rows n) seats (record { place = place; ahead = ahead; levels = levels; depth = 0 })
   unfolding addedAll
   first-ready seats levels level long few rows = record {
@@ -273,7 +274,7 @@ module _ {g : Places} {seats : List ℕ} {st : List (List ℕ)} {ahead : List �
       popped : pops g (suc k) st ≡ offered (g .size) next (snoc (take d place) i) ++ stackAt (g .size) ahead place d (left row (joined 0 i))
       popped = ap (pop g) split ∙ rw next-kids
 
-      deeper : 0 < next → next < 2 ^ 64 → d + 1 < 16
+      deeper : 0 < next → next < 2 ^ 64 → d + 1 < bundleMost
       deeper h f =
           let q : highest next < 64 = highest-place next h f in
           let l : highest next < g .size =

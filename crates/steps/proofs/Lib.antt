@@ -1,16 +1,7 @@
-pub mod Agree
 pub mod Ends
-pub mod Examples
-pub mod Exists
-pub mod Faults
 pub mod Judging
 pub mod Laid
 pub mod Least
 pub mod Levels
-pub mod Lists
 pub mod Paths
-pub mod Settled
-pub mod Shown
 pub mod Stack
-pub mod Total
-pub mod Unique

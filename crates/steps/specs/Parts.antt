@@ -5,16 +5,17 @@ use mathlib.Core.Path.{_≡_}
 use Prim.Native.Nat.{ℕ, zero, suc, _+_, _≤_, _<_}
 use lib.Dec.{ltb}
 use lib.ListN.{length, getD, take, drop}
+use Rattle.places.specs.Limits.{bundleMost}
 use Rattle.order.specs.Listing.{_among_}
 use Rattle.order.specs.Paths.{Places, Simple}
 use Rattle.order.specs.Walk.{keep, down, used, snoc, pops, top, tops}
-use Rattle.policy.specs.Standing.{added, standing, rootsOver}
+use Rattle.policy.specs.Standing.{fresh-standing, added, standing, rootsOver}
 use Rattle.rows.specs.Rows.{has, joined, left}
 use Rattle.steps.specs.declared.walk.Depths.{Depths}
 use Rattle.steps.specs.declared.walk.End.{End}
 use Rattle.steps.specs.declared.walk.Level.{Level}
-use Rattle.steps.specs.Answer.{told, saying, shown}
-use Rattle.steps.specs.Settles.{Roots, QualifiesBy, Qualifies, Outcome, accepted, refused, exhausted, steps}
+use Rattle.reply.specs.Answer.{saying, shown}
+use Rattle.reply.specs.Settles.{Roots, QualifiesBy, Qualifies, Outcome, accepted, refused, exhausted, steps}
 
 -- the path that a slot holds
 unfoldable pub pathOf : List ℕ → List ℕ
@@ -23,8 +24,8 @@ pathOf s = take (getD s 0 0) (drop 1 s)
 -- ---- what is asked of the walk
 
 -- a path qualifies by root r: as it stands r may stand above it, and r issued its last place
-abbrev pub rootsBy : List ℕ → List ℕ → Roots
-rootsBy issued seats = record { count = 64; good = λ p r. has r (rootsOver issued seats p) }
+abbrev pub rootsSeated : List ℕ → List ℕ → Roots
+rootsSeated issued seats = record { count = 64; good = λ p r. has r (rootsOver issued seats p) }
 
 -- ---- what waits, by depths
 
@@ -39,7 +40,7 @@ waiting n ahead place (suc d) = offered n (getD ahead d 0) (take d place) ++ wai
 
 -- the level at depth k
 abbrev pub levelAt : List Level → ℕ → Level
-levelAt levels k = getD levels k (record { free = 0; standing = record { places = 0; roots = 0; below = 0 } })
+levelAt levels k = getD levels k (record { free = 0; standing = fresh-standing })
 
 -- at the depth after p: the row has no place from n on, those below n that p does not use are free, and the level has how p stands
 pub record LevelAfter (n : ℕ) (seats p : List ℕ) (row : ℕ) (l : Level) : Type 0 where
@@ -53,8 +54,8 @@ stackOf n s = waiting n (s .ahead) (s .place) (s .depth + 1)
 
 -- a state from which a walk can go on
 pub record Ready (g : Places) (seats : List ℕ) (s : Depths) : Type 0 where
-  pub long : length (s .levels) ≡ 16
-  pub deep : s .depth < 16
+  pub long : length (s .levels) ≡ bundleMost
+  pub deep : s .depth < bundleMost
   pub each : (k : ℕ) → k ≤ s .depth → LevelAfter (g .size) seats (take k (s .place)) (getD (s .ahead) k 0) (levelAt (s .levels) k)
   pub simple : (p : List ℕ) → p among stackOf (g .size) s → Simple g p
 
@@ -79,9 +80,9 @@ Ends g w k st (exhausted s) = (s ≡ k) × Vain g w st s × ((p : List ℕ) × (
 pub record Stopped (g : Places) (P : Outcome → Type 0) (st : List (List ℕ)) (e : End) : Type 0 where
   pub outcome : Outcome
   pub ends : P outcome
-  pub says : told (e .reply) ≡ saying outcome
-  pub short : e .len ≤ 16
-  pub long : length (e .place) ≡ 16
+  pub says : e .reply ≡ saying outcome
+  pub short : e .len ≤ bundleMost
+  pub long : length (e .place) ≡ bundleMost
   pub shows : take (e .len) (e .place) ≡ shown outcome
-  pub few : e .depths ≤ 16
+  pub few : e .depths ≤ bundleMost
   pub left : waiting (g .size) (e .ahead) (e .place) (e .depths) ≡ pops g (steps outcome) st

@@ -1,9 +1,9 @@
 // What waits, left in the room: the rows of a walk as paths in slots.
-use crate::Slot;
 use crate::room::write_slot;
 use crate::room::zero_bytes;
-use card::Bundle;
 use order::slots;
+use places::BundlePlace;
+use reply::Slot;
 use rows::has;
 ghost use mathlib.Core.List.{_++_};
 ghost use mathlib.Core.Path.{_≡_};
@@ -11,14 +11,15 @@ ghost use Prim.Native.Nat.{_+_, _*_, _≤_, _<_};
 ghost use lib.ListN.{length, take, drop, getD, set};
 ghost use lib.Seq.{paste};
 ghost use Rattle.order.specs.Slots.{slotsOf};
+ghost use Rattle.places.specs.Limits.{bundleMost};
+ghost use Rattle.reply.specs.Room.{holding};
+ghost use Rattle.reply.specs.Slots.{slotBytes, slotOf, flat};
 ghost use Rattle.steps.specs.Parts.{pathOf, offered, waiting};
-ghost use Rattle.steps.specs.Room.{holding};
-ghost use Rattle.steps.specs.Slots.{slotOf, flat};
 
 // Puts in slot t the child of s's path by place i.
 fn put_child(room: &mut [u8], t: usize, s: [u8; Slot::BYTES], i: u8)
-    requires { ⌜ (17 * t + 17 ≤ length (now room)) × (getD s 0 0 < 16) ⌝ }
-    ensures { λ _. ⌜ now (room .exit) ≡ paste (now (room .entry)) (17 * t) (set (set s (getD s 0 0 + 1) i) 0 (getD s 0 0 + 1)) 17 ⌝ }
+    requires { ⌜ (slotBytes * t + slotBytes ≤ length (now room)) × (getD s 0 0 < bundleMost) ⌝ }
+    ensures { λ _. ⌜ now (room .exit) ≡ paste (now (room .entry)) (slotBytes * t) (set (set s (getD s 0 0 + 1) i) 0 (getD s 0 0 + 1)) slotBytes ⌝ }
 {
     let len = s[0] as usize;
     write_slot(room, t, s);
@@ -28,10 +29,10 @@ fn put_child(room: &mut [u8], t: usize, s: [u8; Slot::BYTES], i: u8)
 
 // Lays the children of s's path by the places of a row in the slots from m on, and returns how many slots are then in use.
 fn lay_row(room: &mut [u8], m: usize, s: [u8; Slot::BYTES], row: u64, n: u8) -> usize
-    requires { ⌜ (s ≡ slotOf (pathOf s)) × (length (pathOf s) < 16) ⌝ }
-    requires { ⌜ 17 * (m + length (offered n row (pathOf s))) ≤ length (now room) ⌝ }
+    requires { ⌜ (s ≡ slotOf (pathOf s)) × (length (pathOf s) < bundleMost) ⌝ }
+    requires { ⌜ slotBytes * (m + length (offered n row (pathOf s))) ≤ length (now room) ⌝ }
     ensures count { λ r. ⌜ r ≡ m + length (offered n row (pathOf s)) ⌝ }
-    ensures room { λ r. ⌜ now (room .exit) ≡ take (17 * m) (now (room .entry)) ++ (flat (offered n row (pathOf s)) ++ drop (17 * r) (now (room .entry))) ⌝ }
+    ensures room { λ r. ⌜ now (room .exit) ≡ take (slotBytes * m) (now (room .entry)) ++ (flat (offered n row (pathOf s)) ++ drop (slotBytes * r) (now (room .entry))) ⌝ }
 {
     let mut top = m;
     let mut i: u8 = 0;
@@ -49,14 +50,14 @@ fn lay_row(room: &mut [u8], m: usize, s: [u8; Slot::BYTES], row: u64, n: u8) -> 
 fn lay(
     room: &mut [u8],
     n: u8,
-    ahead: [u64; Bundle::MOST],
-    place: [u8; Bundle::MOST],
+    ahead: [u64; BundlePlace::MOST],
+    place: [u8; BundlePlace::MOST],
     depths: usize,
 ) -> usize
-    requires { ⌜ depths ≤ 16 ⌝ }
-    requires { ⌜ 17 * length (waiting n ahead place depths) ≤ length (now room) ⌝ }
+    requires { ⌜ depths ≤ bundleMost ⌝ }
+    requires { ⌜ slotBytes * length (waiting n ahead place depths) ≤ length (now room) ⌝ }
     ensures count { λ r. ⌜ r ≡ length (waiting n ahead place depths) ⌝ }
-    ensures room { λ r. ⌜ now (room .exit) ≡ flat (waiting n ahead place depths) ++ drop (17 * r) (now (room .entry)) ⌝ }
+    ensures room { λ r. ⌜ now (room .exit) ≡ flat (waiting n ahead place depths) ++ drop (slotBytes * r) (now (room .entry)) ⌝ }
 {
     let mut s = [0u8; Slot::BYTES];
     let mut m = 0;
@@ -74,12 +75,12 @@ fn lay(
 pub(crate) fn leave(
     room: &mut [u8],
     n: u8,
-    ahead: [u64; Bundle::MOST],
-    place: [u8; Bundle::MOST],
+    ahead: [u64; BundlePlace::MOST],
+    place: [u8; BundlePlace::MOST],
     depths: usize,
 )
-    requires { ⌜ (n ≤ 16) × (depths ≤ 16) ⌝ }
-    requires { ⌜ (length (waiting n ahead place depths) ≤ slotsOf n) × (17 * slotsOf n ≤ length (now room)) ⌝ }
+    requires { ⌜ (n ≤ bundleMost) × (depths ≤ bundleMost) ⌝ }
+    requires { ⌜ (length (waiting n ahead place depths) ≤ slotsOf n) × (slotBytes * slotsOf n ≤ length (now room)) ⌝ }
     ensures { λ _. ⌜ now (room .exit) ≡ holding n (waiting n ahead place depths) (now (room .entry)) ⌝ }
 {
     let waiting = lay(room, n, ahead, place, depths);

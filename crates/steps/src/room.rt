@@ -1,22 +1,16 @@
-// The lent room: bytes in slots, each a length and then so many places.
-use card::Bundle;
+// Writing to the lent room.
+use reply::Slot;
 ghost use mathlib.Core.List.{_++_};
 ghost use mathlib.Core.Path.{_≡_};
 ghost use Prim.Native.Nat.{_+_, _-_, _*_, _≤_};
 ghost use lib.ListN.{length, take, drop, replicate};
 ghost use lib.Seq.{paste};
-
-// A slot: a length, then as many places as a path can have.
-pub struct Slot {}
-
-impl Slot {
-    pub const BYTES: usize = Bundle::MOST + 1;
-}
+ghost use Rattle.reply.specs.Slots.{slotBytes};
 
 // Puts s in slot t.
 pub(crate) fn write_slot(room: &mut [u8], t: usize, s: [u8; Slot::BYTES])
-    requires { ⌜ 17 * t + 17 ≤ length (now room) ⌝ }
-    ensures { λ _. ⌜ now (room .exit) ≡ paste (now (room .entry)) (17 * t) s 17 ⌝ }
+    requires { ⌜ slotBytes * t + slotBytes ≤ length (now room) ⌝ }
+    ensures { λ _. ⌜ now (room .exit) ≡ paste (now (room .entry)) (slotBytes * t) s slotBytes ⌝ }
 {
     let at = Slot::BYTES * t;
     let mut j = 0;

@@ -1,13 +1,13 @@
 // The walk: step after step until a path reaches a root, none waits, or the budget is spent. What waits is kept by depths, as rows
 // of places: the room is not touched.
-use crate::Reply;
-use card::Bundle;
-use card::RootPlace;
+use places::BundlePlace;
+use places::RootPlace;
 use policy::Seats;
 use policy::Standing;
 use policy::added;
 use policy::begun;
 use policy::over;
+use reply::Reply;
 use rows::Row;
 use rows::below;
 use rows::highest;
@@ -19,10 +19,11 @@ ghost use mathlib.Core.List.{List, [], _∷_};
 ghost use mathlib.Core.Path.{_≡_};
 ghost use Prim.Native.Nat.{ℕ, _+_, _≤_, _<_};
 ghost use lib.ListN.{set};
-ghost use Rattle.steps.specs.Answer.{placesBy};
+ghost use Rattle.places.specs.Limits.{bundleMost};
+ghost use Rattle.question.specs.Question.{placesBy};
 ghost use Rattle.policy.specs.Standing.{over};
 ghost use Rattle.rows.specs.Rows.{joined, left, common};
-ghost use Rattle.steps.specs.Parts.{rootsBy, stackOf, Ready, onward, Ends, Stopped};
+ghost use Rattle.steps.specs.Parts.{rootsSeated, stackOf, Ready, onward, Ends, Stopped};
 
 // What a walk keeps of a depth beside the places that are still to be taken there: the places that the path before leaves free, and how
 // that path stands.
@@ -33,9 +34,9 @@ pub(crate) struct Level {
 
 // Where a walk stands: its depth, the places taken before it, and for each depth up to it the places ahead and the level.
 pub(crate) struct Depths {
-    pub(crate) place: [u8; Bundle::MOST],
-    pub(crate) ahead: [u64; Bundle::MOST],
-    pub(crate) levels: [Level; Bundle::MOST],
+    pub(crate) place: [u8; BundlePlace::MOST],
+    pub(crate) ahead: [u64; BundlePlace::MOST],
+    pub(crate) levels: [Level; BundlePlace::MOST],
     pub(crate) depth: usize,
 }
 
@@ -43,14 +44,14 @@ pub(crate) struct Depths {
 pub(crate) struct End {
     pub(crate) reply: Reply,
     pub(crate) len: usize,
-    pub(crate) place: [u8; Bundle::MOST],
-    pub(crate) ahead: [u64; Bundle::MOST],
+    pub(crate) place: [u8; BundlePlace::MOST],
+    pub(crate) ahead: [u64; BundlePlace::MOST],
     pub(crate) depths: usize,
 }
 
 // Where a search begins: the leaf alone waits.
 pub(crate) fn first(n: u8, seats: &[u64; Seats::ROWS]) -> Depths
-    requires { ⌜ (1 ≤ n) × (n ≤ 16) ⌝ }
+    requires { ⌜ (1 ≤ n) × (n ≤ bundleMost) ⌝ }
     ensures ready { λ r. ⌜ ((rows : List ℕ) → Ready (placesBy rows n) (now (seats .entry)) r) ⌝ }
     ensures leaf { λ r. ⌜ stackOf n r ≡ (0 ∷ []) ∷ [] ⌝ }
 {
@@ -60,9 +61,9 @@ pub(crate) fn first(n: u8, seats: &[u64; Seats::ROWS]) -> Depths
         standing,
     };
     Depths {
-        place: [0u8; Bundle::MOST],
-        ahead: [with(0, 0); Bundle::MOST],
-        levels: [level; Bundle::MOST],
+        place: [0u8; BundlePlace::MOST],
+        ahead: [with(0, 0); BundlePlace::MOST],
+        levels: [level; BundlePlace::MOST],
         depth: 0,
     }
 }
@@ -96,13 +97,13 @@ fn onward(level: Level, i: u8, seats: &[u64; Seats::ROWS]) -> Level
 pub(crate) fn walk(
     from: Depths,
     n: u8,
-    rows: &[u64; Bundle::MOST],
-    roots: &[u64; Bundle::MOST],
+    rows: &[u64; BundlePlace::MOST],
+    roots: &[u64; BundlePlace::MOST],
     seats: &[u64; Seats::ROWS],
     budget: u64,
 ) -> End
-    requires { ⌜ (n ≤ 16) × Ready (placesBy (now rows) n) (now seats) from ⌝ }
-    ensures { λ r. ⌜ Stopped (placesBy (now (rows .entry)) n) (Ends (placesBy (now (rows .entry)) n) (rootsBy (now (roots .entry)) (now (seats .entry))) budget (stackOf n from)) (stackOf n from) r ⌝ }
+    requires { ⌜ (n ≤ bundleMost) × Ready (placesBy (now rows) n) (now seats) from ⌝ }
+    ensures { λ r. ⌜ Stopped (placesBy (now (rows .entry)) n) (Ends (placesBy (now (rows .entry)) n) (rootsSeated (now (roots .entry)) (now (seats .entry))) budget (stackOf n from)) (stackOf n from) r ⌝ }
 {
     let mut ahead = from.ahead;
     let mut levels = from.levels;
@@ -149,12 +150,12 @@ pub(crate) fn walk(
 fn stopped(
     reply: Reply,
     len: usize,
-    place: [u8; Bundle::MOST],
-    ahead: [u64; Bundle::MOST],
+    place: [u8; BundlePlace::MOST],
+    ahead: [u64; BundlePlace::MOST],
     depth: usize,
     row: u64,
 ) -> End
-    requires { ⌜ depth < 16 ⌝ }
+    requires { ⌜ depth < bundleMost ⌝ }
     ensures { λ r. ⌜ r ≡ record { reply = reply; len = len; place = place; ahead = set ahead depth row; depths = depth + 1 } ⌝ }
 {
     let mut all = ahead;

@@ -1,5 +1,3 @@
 pub mod Found
-pub mod Members
 pub mod Rows
-pub mod Standing
 pub mod Upstream

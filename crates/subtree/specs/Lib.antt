@@ -1,2 +1,1 @@
 pub mod Subtree
-pub mod Rows

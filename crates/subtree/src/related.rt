@@ -1,6 +1,5 @@
 // The relations of two whole encoded arguments. The first argument is judged through, bytes left over included,
 // before the second is looked at.
-use crate::under::has_name;
 use crate::under::subtree;
 use crate::under::subtree_rdn_walk;
 use fields::Past;
@@ -10,11 +9,13 @@ use names::whole_attribute;
 use names::whole_name;
 use names::whole_rdn;
 use same::Related;
+use same::has_name;
 ghost use mathlib.Core.Path.{_≡_};
 ghost use Rattle.fields.specs.Fields.{whole};
 ghost use Rattle.names.specs.Names.{attrP, rdnP, nameP};
+ghost use Rattle.same.specs.Same.{rdnHasName};
 ghost use Rattle.same.specs.Answers.{said, asked};
-ghost use Rattle.subtree.specs.Subtree.{rdnHasName, isSubtreeRdn, isSubtreeOf};
+ghost use Rattle.subtree.specs.Subtree.{isSubtreeRdn, isSubtreeOf};
 
 // Whether some attribute of an RDN is the same as this one.
 pub fn rdn_has_name(rdn: &[u8], name: &[u8], normalise: bool) -> Related

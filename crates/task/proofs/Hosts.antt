@@ -8,22 +8,22 @@ use Rattle.fields.specs.Fields.{got, spanP}
 use Rattle.fields.specs.declared.string.Span.{Span}
 use Rattle.fields.proofs.After.{after-got, got-is}
 use Rattle.fields.proofs.Strings.{SpanRead, span-read}
-use Rattle.task.specs.Task.{timesP, purposeP, taskP}
+use Rattle.task.specs.Task.{timesP, purposeP, taskP, hostMost}
 use Rattle.task.specs.declared.Task.{Task}
 
 -- the host was read, and e is the place past it
 pub record HostRead (s : List ℕ) (p : Span) (e : ℕ) : Type 0 where
   pub at : ℕ
-  pub is : SpanRead 0 253 s at p e
+  pub is : SpanRead 0 hostMost s at p e
 
 pub host-read : (s : List ℕ) (at : ℕ) (t : Task) (e : ℕ) → taskP s at ≡ got t e → HostRead s (t .host .name) e
 unfolding taskP
 host-read s at t e h =
     let times = after-got (timesP s at) _ h in
     let purpose = after-got (purposeP s (times .place)) _ (times .next) in
-    let host = after-got (spanP 0 253 s (purpose .place)) _ (purpose .next) in
+    let host = after-got (spanP 0 hostMost s (purpose .place)) _ (purpose .next) in
     got-is (λ (t : Task) e. HostRead s (t .host .name) e) (host .next)
-    (record { at = purpose .place; is = span-read 0 253 s _ _ _ (host .first) })
+    (record { at = purpose .place; is = span-read 0 hostMost s _ _ _ (host .first) })
 
 -- the host ends within the file, so a card that ends no earlier ends with it
 pub host-ends : (s : List ℕ) (p : Span) (e : ℕ) → HostRead s p e → length s ≤ e → e ≡ length s

@@ -4,8 +4,7 @@ use Prim.Native.Nat.{ℕ}
 use mathlib.Core.Bool.{cond}
 use mathlib.Core.List.{List}
 use lib.Dec.{eqb}
-use Rattle.fields.specs.Fields.{Parsed, got, stop, after, countP, spanP, bigP, byteP}
-use Rattle.extensions.specs.Extensions.{nowhere}
+use Rattle.fields.specs.Fields.{Parsed, got, stop, after, countP, spanP, nowhere, bigP, byteP}
 use Rattle.task.specs.declared.Host.{Host}
 use Rattle.task.specs.declared.Task.{Task}
 
@@ -21,12 +20,16 @@ timesP s at =
 unfoldable pub purposeP : List ℕ → ℕ → Parsed ℕ
 purposeP s at = after (byteP s at) (λ purpose e. cond (eqb purpose 0) (got purpose e) (stop 8))
 
+-- the most bytes of a host
+abbrev pub hostMost : ℕ
+hostMost = 253
+
 -- the task: its count, now, budget, purpose, and a host of 0..253 bytes
 unfoldable pub taskP : List ℕ → ℕ → Parsed Task
 taskP s at =
     after (timesP s at) (λ t e.
     after (purposeP s e) (λ _ f.
-    after (spanP 0 253 s f) (λ host g.
+    after (spanP 0 hostMost s f) (λ host g.
     got (record { now = t .0; budget = t .1; host = record { name = host } }) g)))
 
 -- ---- what stands where nothing was read

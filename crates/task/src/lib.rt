@@ -31,7 +31,7 @@ impl Host {
         ensures { λ r. ⌜ r ≡ fresh-host ⌝ }
     {
         Host {
-            name: Span { start: 0, end: 0 },
+            name: Span::NOWHERE,
         }
     }
 }

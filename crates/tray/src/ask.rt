@@ -4,14 +4,15 @@ use crate::lines::end_at;
 use crate::show;
 use crate::words::card;
 use crate::words::number;
+use reply::Answer;
+use report::Room;
 use search::paused;
 use search::search;
-use steps::Answer;
 use text::equal;
 ghost use Prim.Native.Nat.{_≤_};
 
 // The most bytes of room that are lent: more than any card needs.
-const MOST: usize = 2048;
+const MOST: usize = 2 * Room::BYTES;
 
 // LABEL|QUESTION|ROOM|CARD; a field that is missing is empty.
 pub(crate) fn answer(line: &[u8]) {
@@ -41,7 +42,7 @@ fn lend(label: &[u8], question: &[u8], lent: usize, text: &[u8]) {
 }
 
 fn least(lent: usize) -> usize
-    ensures { λ r. ⌜ r ≤ 2048 ⌝ }
+    ensures { λ r. do ⌜ r ≤ (← ⟦MOST⟧ .entry) ⌝ }
 {
     if lent < MOST { lent } else { MOST }
 }

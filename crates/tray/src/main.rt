@@ -5,7 +5,7 @@
 //     LABEL|search|ROOM|CARD
 //     LABEL|K|ROOM|CARD
 // The first is a search with the card's own budget, the second a paused run with K in the budget's place, 9,999 at most.
-// ROOM is how many bytes are lent, 2,048 at most; each of them is #.
+// ROOM is how many bytes are lent, at most twice what a full bundle needs; each of them is #.
 // CARD is a whole card file, in words: bytes as two digits each, 0 to 9 and A to F. A word 3*0102 stands for 010201020102.
 // Empty lines and lines that begin with # are skipped. What is over 4,096 bytes of a card, or 65,536 of the input, is not read.
 //

@@ -2,9 +2,9 @@
 use crate::lines::end_at;
 use crate::lines::run_end;
 use libc::STDOUT_FILENO;
+use reply::Answer;
+use reply::Slot;
 use report::line_of;
-use steps::Answer;
-use steps::Slot;
 ghost use Prim.Native.Nat.{_≤_};
 ghost use lib.ListN.{length};
 
@@ -59,7 +59,7 @@ fn paths(s: &[u8]) -> usize
     at
 }
 
-// Whether a slot holds a path: a length of 1 to 16, and zeros past so many places.
+// Whether a slot holds a path: a length from 1 to as many places as a slot has, and zeros past so many places.
 fn is_path(slot: &[u8]) -> bool {
     if slot.len() != Slot::BYTES {
         return false;

@@ -1,11 +1,11 @@
 // The verdicts of a card file: who signed whom, a row for each issuer and a column for each subject, by where the first stands.
 // They are read where the bundle ends; what certificates stand at these places is left to the crates above.
-use certificates::BundlePlace;
-use certificates::RootPlace;
 use fields::Fault;
 use fields::NumberAt;
 use fields::Past;
 use fields::u16_at;
+use places::BundlePlace;
+use places::RootPlace;
 ghost use mathlib.Core.Path.{_≡_};
 ghost use Prim.Native.Nat.{_+_, _*_, _≤_};
 ghost use lib.ListN.{length};

@@ -4,19 +4,20 @@ use native.Mathlib.Omega.{arith}
 use mathlib.Core.Path.{_≡_, sym, _∙_}
 use Prim.Native.Nat.{_≤_}
 use lib.ListN.{length, drop}
+use Rattle.places.specs.Limits.{bundleMost}
 use Rattle.issuing.specs.Records.{issuersOf}
 use Rattle.issuing.proofs.Issuers.{issuers-none, issuers-more}
 use Rattle.issuing.proofs.issuers_of.Statement.{statement}
 use Rattle.issuing.proofs.issuers_of.Tie as tie
 
 abbrev Inv-loop : tie.InvT-loop
-Inv-loop rows all₀ j₀ all j = (length rows ≡ 16) × (j ≤ 16) × (all ≡ issuersOf (drop j rows))
+Inv-loop rows all₀ j₀ all j = (length rows ≡ bundleMost) × (j ≤ bundleMost) × (all ≡ issuersOf (drop j rows))
 
 abbrev μ-loop : tie.MeasureT-loop
 μ-loop rows all₀ j₀ all j = j
 
 loop-holds : tie.Need-loop-holds Inv-loop μ-loop
-loop-holds c = let long = c .good .0 .1 .0 .1 in (long, omega arith, issuers-none (c .args .t1) 16 (sym long))
+loop-holds c = let long = c .good .0 .1 .0 .1 in (long, omega arith, issuers-none (c .args .t1) bundleMost (sym long))
 
 sub-j : tie.Need-sub-j Inv-loop μ-loop
 sub-j c = search needs

@@ -2,6 +2,7 @@
 use borrow.Author.Needs.{needs}
 use Prim.Native.Nat.{_-_}
 use mathlib.Core.Path.{ap, _∙_}
+use Rattle.places.specs.Limits.{rootsMost, bundleMost}
 use Rattle.certificates.specs.Certificates.{recordOf, sizeOf}
 use Rattle.rows.specs.Rows.{rowOf}
 use Rattle.issuing.specs.Records.{claimOf, bundleIssuedAt, rootIssuedAt, bundleRows, rootRows}
@@ -11,8 +12,8 @@ use Rattle.issuing.proofs.who_issued.Tie as tie
 
 abbrev Inv-loop : tie.InvT-loop
 Inv-loop file bundle roots verdicts n by-bundle₀ by-roots₀ j₀ by-bundle by-roots j =
-    RowsTo (λ k. rowOf (λ i. bundleIssuedAt file bundle verdicts i k) (sizeOf 16 (bundle .count))) n by-bundle j
-    × RowsTo (λ k. rowOf (λ i. rootIssuedAt file roots verdicts (recordOf (bundle .count) (bundle .records) k) i k) (sizeOf 32 (roots .count))) n by-roots j
+    RowsTo bundleMost (λ k. rowOf (λ i. bundleIssuedAt file bundle verdicts i k) (sizeOf bundleMost (bundle .count))) n by-bundle j
+    × RowsTo bundleMost (λ k. rowOf (λ i. rootIssuedAt file roots verdicts (recordOf (bundle .count) (bundle .records) k) i k) (sizeOf rootsMost (roots .count))) n by-roots j
 
 abbrev μ-loop : tie.MeasureT-loop
 μ-loop file bundle roots verdicts n by-bundle₀ by-roots₀ j₀ by-bundle by-roots j = n - j

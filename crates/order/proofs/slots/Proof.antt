@@ -2,10 +2,11 @@
 use mathlib.Core.Bool.{Bool}
 use mathlib.Core.List.{List}
 use mathlib.Core.Path.{_≡_, sym}
-use Prim.Native.Nat.{ℕ, _<_}
+use Prim.Native.Nat.{ℕ, _+_, _<_}
 use lib.Dec.{T, eqb, eqb→eq}
 use lib.ListN.{length, getD}
 use borrow.Author.Needs.{needs}
+use Rattle.places.specs.Limits.{bundleMost}
 use Rattle.order.specs.Slots.{slotsOf}
 use Rattle.order.proofs.Formula.{slots-past}
 use Rattle.order.proofs.Table.{every, at}
@@ -25,7 +26,7 @@ array-read-result c = search needs
 
 -- the test over the table in the code computes to the unit type, which t proves
 returns : tie.Need-returns
-returns c = let t : Unit {0} = tt in let h : c .before .args .n < 17 = search needs in rw rule
+returns c = let t : Unit {0} = tt in let h : c .before .args .n < bundleMost + 1 = search needs in rw rule
 
 returns-2 : tie.Need-returns-2
 returns-2 c = sym (slots-past (c .before .args .n) (search needs))

@@ -3,7 +3,7 @@ use borrow.Author.Needs.{needs}
 use mathlib.Core.List.{[]}
 use Prim.Native.Nat.{_≤_}
 use native.Mathlib.Omega.{arith}
-use Rattle.report.specs.Lines.{wordsFor}
+use Rattle.report.specs.Lines.{words}
 use Rattle.report.proofs.Decimals.{decimal-u8, decimal-u64}
 use Rattle.report.proofs.accepted.Statement.{statement}
 use Rattle.report.proofs.accepted.Tie as tie
@@ -58,7 +58,7 @@ with-requires-2 : tie.Need-with-requires-2
 with-requires-2 c κs = omega (arith, third (c .before .before), c .before .with-places .ensures .0)
 
 returns : tie.Need-returns
-unfolding wordsFor
+unfolding words
 returns c =
     let p = c .before .before in
     let w = p .before in

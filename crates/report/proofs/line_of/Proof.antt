@@ -1,7 +1,6 @@
 -- `line_of` writes each case of a reply in its words. Assumes nothing.
 use borrow.Author.Needs.{needs}
-use mathlib.Core.Path.{_∙_}
-use Rattle.report.proofs.Replies.{line-accepted, line-refused, line-exhausted, line-empty, line-unread, line-no-room}
+use Rattle.report.proofs.Replies.{line-accepted, line-refused, line-exhausted, line-error}
 use Rattle.report.proofs.line_of.Statement.{statement}
 use Rattle.report.proofs.line_of.Tie as tie
 
@@ -38,49 +37,22 @@ numbered-requires-2 c κs = search needs
 returns-3 : tie.Need-returns-3
 returns-3 c = line-exhausted _ (c .before .before .before .reply3 .given .1) (c .numbered2 .ensures)
 
-enum-told : tie.Need-enum-told
-enum-told c = search needs
+enum-known-reply-4 : tie.Need-enum-known-reply-4
+enum-known-reply-4 c = search needs
 
 slice-aggregate-numbered-3 : tie.Need-slice-aggregate-numbered-3
 slice-aggregate-numbered-3 c = search needs
+
+wide-requires : tie.Need-wide-requires
+wide-requires c κs = search needs
 
 numbered-requires-3 : tie.Need-numbered-requires-3
 numbered-requires-3 c κs = search needs
 
 returns-4 : tie.Need-returns-4
-returns-4 c = line-empty _ (c .before .before .enum-told .given .1) (c .numbered3 .ensures)
-
-enum-known-reply-4 : tie.Need-enum-known-reply-4
-enum-known-reply-4 c = search needs
-
-slice-aggregate-numbered-4 : tie.Need-slice-aggregate-numbered-4
-slice-aggregate-numbered-4 c = search needs
-
-number-requires : tie.Need-number-requires
-number-requires c κs = search needs
-
-wide-requires : tie.Need-wide-requires
-wide-requires c κs = search needs
-
-numbered-requires-4 : tie.Need-numbered-requires-4
-numbered-requires-4 c κs = search needs
-
-returns-5 : tie.Need-returns-5
-returns-5 c =
+returns-4 c =
     let w = c .before in
-    line-unread _ (w .before .before .before .before .reply4 .given .1) (w .wide .ensures .0 ∙ w .before .number .ensures) (c .numbered4 .ensures)
-
-enum-told-2 : tie.Need-enum-told-2
-enum-told-2 c = search needs
-
-slice-aggregate-numbered-5 : tie.Need-slice-aggregate-numbered-5
-slice-aggregate-numbered-5 c = search needs
-
-numbered-requires-5 : tie.Need-numbered-requires-5
-numbered-requires-5 c κs = search needs
-
-returns-6 : tie.Need-returns-6
-returns-6 c = line-no-room _ (c .before .before .enum-told2 .given .1) (c .numbered5 .ensures)
+    line-error _ (w .before .before .before .reply4 .given .1) (w .wide .ensures .0) (c .numbered3 .ensures)
 
 pub line-of-spec : {M : Type 1} → statement M
 line-of-spec =
@@ -97,17 +69,8 @@ line-of-spec =
     slice-aggregate-numbered-2
     numbered-requires-2
     returns-3
-    enum-told
-    slice-aggregate-numbered-3
-    numbered-requires-3
-    returns-4
     enum-known-reply-4
-    slice-aggregate-numbered-4
-    number-requires
+    slice-aggregate-numbered-3
     wide-requires
-    numbered-requires-4
-    returns-5
-    enum-told-2
-    slice-aggregate-numbered-5
-    numbered-requires-5
-    returns-6)
+    numbered-requires-3
+    returns-4)

@@ -7,10 +7,12 @@ use Prim.Native.Nat.{ℕ, _+_, _-_, _*_, _≤_, _<_}
 use native.Mathlib.Nat.{min-le-right}
 use native.Mathlib.Omega.{arith}
 use lib.ListN.{length, take, length-map}
+use Rattle.places.specs.Limits.{bundleMost}
+use Rattle.reply.proofs.Shown.{take-few}
 use Rattle.report.specs.Lines.{lineShown, spaced, numberOf, placesShown}
 use Rattle.report.specs.Text.{ascii, decimal}
 use Rattle.report.proofs.Decimals.{decimal-u8}
-use Rattle.report.proofs.Places.{place-behind, take-few}
+use Rattle.report.proofs.Places.{place-behind}
 use Rattle.report.proofs.with_places.Statement.{statement}
 use Rattle.report.proofs.with_places.Tie as tie
 
@@ -22,15 +24,18 @@ Inv-loop places n line₀ j₀ t8 line j =
 abbrev μ-loop : tie.MeasureT-loop
 μ-loop places n line₀ j₀ t8 line j = n - j
 
-shown-requires : tie.Need-shown-requires Inv-loop μ-loop
-shown-requires c κs = search needs
+cast-within : tie.Need-cast-within Inv-loop μ-loop
+cast-within c = search needs
 
--- that there are 16 places is what holding the array tells
-sixteen : (c : tie.Start Inv-loop μ-loop) → length (c .args .path .places) ≡ 16
-sixteen c = simp length-map at (c .good .1 .0 .1 .1 .1 .0 .1 .0 .1)
+within-requires : tie.Need-within-requires Inv-loop μ-loop
+within-requires c κs = search needs
 
-few : (c : tie.After-shown Inv-loop μ-loop) → c .shown .result ≤ 16
-few c = rw (c .shown .ensures) (min-le-right (c .before .before .args .path .length) 16)
+-- how many places there are is what holding the array tells
+places-are : (c : tie.Start Inv-loop μ-loop) → length (c .args .path .places) ≡ bundleMost
+places-are c = simp length-map at (c .good .1 .0 .1 .1 .1 .0 .1 .0 .1)
+
+few : (c : tie.After-within Inv-loop μ-loop) → c .within .result ≤ bundleMost
+few c = rw (c .within .ensures) (min-le-right (c .before .before .before .args .path .length) bundleMost)
 
 loop-holds : tie.Need-loop-holds Inv-loop μ-loop
 unfolding spaced
@@ -48,7 +53,7 @@ wide-requires c κs = search needs
 with-number-requires : tie.Need-with-number-requires Inv-loop μ-loop
 with-number-requires c κs =
     let l = c .before .before .before .before in
-    omega (arith, few (l .before), l .before .before .before .pre, l .loop .inv .1 .1 .0, decimal-u8 (c .wide .result) (c .wide .ensures .1))
+    omega (arith, few (l .before), l .before .before .before .before .pre, l .loop .inv .1 .1 .0, decimal-u8 (c .wide .result) (c .wide .ensures .1))
 
 add-j : tie.Need-add-j Inv-loop μ-loop
 add-j c = omega (arith, few (c .before .before .before .before .before .before))
@@ -61,8 +66,8 @@ loop-again c =
     let w = c .before in
     let l = w .before .before .before .before in
     let b = decimal-u8 (w .wide .result) (w .wide .ensures .1) in
-    let places = l .before .before .before .args .path .places in
-    let long : l .loop .j < length places = omega (arith, few (l .before), sixteen (l .before .before .before)) in (
+    let places = l .before .before .before .before .args .path .places in
+    let long : l .loop .j < length places = omega (arith, few (l .before), places-are (l .before .before .before .before)) in (
       omega arith,
       (
         refl,
@@ -81,9 +86,9 @@ unfolding placesShown
 returns c =
     let l = c .before in
     let s = l .before in
-    let p = s .before .before .args .path in
-    let n : l .loop .j ≡ s .shown .result = omega arith in
-    let t : take (l .loop .j) (p .places) ≡ take (p .length) (p .places) = rw (n, s .shown .ensures) (take-few (p .length) (p .places) (sixteen (s .before .before))) in
+    let p = s .before .before .before .args .path in
+    let n : l .loop .j ≡ s .within .result = omega arith in
+    let t : take (l .loop .j) (p .places) ≡ take (p .length) (p .places) = rw (n, s .within .ensures) (take-few bundleMost (p .length) (p .places) (places-are (s .before .before .before))) in
     (omega (arith, few s, l .loop .inv .1 .1 .0), λ k h. l .loop .inv .1 .1 .1 k h ∙ ap (λ x. lineShown (k ++ spaced (map numberOf x))) t)
 
 pub with-places-spec : {M : Type 1} → statement M
@@ -92,7 +97,8 @@ with-places-spec =
     (tie.spec
     Inv-loop
     μ-loop
-    shown-requires
+    cast-within
+    within-requires
     loop-holds
     array-copy-out-place
     slice-aggregate-with-number

@@ -3,6 +3,7 @@
 use borrow.Author.Needs.{needs}
 use Prim.Native.Nat.{_-_}
 use mathlib.Core.Path.{sym, ap, _∙_}
+use Rattle.places.specs.Limits.{rootsMost}
 use Rattle.fields.specs.Answers.{held}
 use Rattle.fields.proofs.Filling.{Filling, filling-starts, filling-goes-on, filling-stops}
 use Rattle.record.specs.Record.{recordP}
@@ -14,7 +15,7 @@ use Rattle.certificates.proofs.roots.root_records.Statement.{statement}
 use Rattle.certificates.proofs.roots.root_records.Tie as tie
 
 abbrev Inv-loop : tie.InvT-loop
-Inv-loop file first n records₀ at₀ i₀ records at i = Filling recordP file 32 fresh first n records at i
+Inv-loop file first n records₀ at₀ i₀ records at i = Filling recordP file rootsMost fresh first n records at i
 
 abbrev μ-loop : tie.MeasureT-loop
 μ-loop file first n records₀ at₀ i₀ records at i = n - i

@@ -6,17 +6,18 @@ use Prim.Native.Nat.{_-_, _≤_, _<_}
 use native.Mathlib.Omega.{arith}
 use lib.ListN.{length, take, drop, getD, set, replicate, length-set, length-map}
 use lib.Seq.{take-all}
-use Rattle.steps.specs.Answer.{placed}
+use Rattle.places.specs.Limits.{bundleMost}
+use Rattle.reply.specs.Answer.{placed}
 use Rattle.desk.specs.Plain.{numbers}
 use Rattle.desk.proofs.Numbers.{number-more}
 use Rattle.desk.proofs.plain.numbers_of.Statement.{statement}
 use Rattle.desk.proofs.plain.numbers_of.Tie as tie
 
 abbrev Inv-loop : tie.InvT-loop
-Inv-loop places bytes₀ j₀ bytes j = (j ≤ 16) × ((bytes ≡ take j (numbers places) ++ drop j bytes₀) × (length bytes ≡ 16))
+Inv-loop places bytes₀ j₀ bytes j = (j ≤ bundleMost) × ((bytes ≡ take j (numbers places) ++ drop j bytes₀) × (length bytes ≡ bundleMost))
 
 abbrev μ-loop : tie.MeasureT-loop
-μ-loop places bytes₀ j₀ bytes j = 16 - j
+μ-loop places bytes₀ j₀ bytes j = bundleMost - j
 
 loop-holds : tie.Need-loop-holds Inv-loop μ-loop
 loop-holds c = (omega arith, (refl, refl))
@@ -37,19 +38,19 @@ loop-again : tie.Need-loop-again Inv-loop μ-loop
 loop-again c =
     let l = c .before .before .loop in
     let ps = c .before .before .before .args .t1 in
-    let n : length ps ≡ 16 = search needs in
+    let n : length ps ≡ bundleMost = search needs in
     let h : l .j < length ps = omega arith in
-    let k : l .j < 16 = omega arith in
-    let m : length (set (l .bytes) (l .j) (getD ps (l .j) (placed 0) .0)) ≡ 16 = simp length-set (l .inv .1 .1) in
-    (omega arith, (ap (λ bs. set bs (l .j) (getD ps (l .j) (placed 0) .0)) (l .inv .1 .0) ∙ number-more ps (replicate 16 0) (l .j) (placed 0) h k, m))
+    let k : l .j < bundleMost = omega arith in
+    let m : length (set (l .bytes) (l .j) (getD ps (l .j) (placed 0) .0)) ≡ bundleMost = simp length-set (l .inv .1 .1) in
+    (omega arith, (ap (λ bs. set bs (l .j) (getD ps (l .j) (placed 0) .0)) (l .inv .1 .0) ∙ number-more ps (replicate bundleMost 0) (l .j) (placed 0) h k, m))
 
 returns : tie.Need-returns Inv-loop μ-loop
 returns c =
     let l = c .before .loop in
     let ps = c .before .before .args .t1 in
-    let n : length ps ≡ 16 = search needs in
-    let k : l .j ≡ 16 = omega arith in
-    l .inv .1 .0 ∙ rw k (append-nil (take 16 (numbers ps)) ∙ take-all 16 (numbers ps) (simp length-map (omega arith)))
+    let n : length ps ≡ bundleMost = search needs in
+    let k : l .j ≡ bundleMost = omega arith in
+    l .inv .1 .0 ∙ rw k (append-nil (take bundleMost (numbers ps)) ∙ take-all bundleMost (numbers ps) (simp length-map (omega arith)))
 
 pub numbers-of-spec : {M : Type 1} → statement M
 numbers-of-spec =

@@ -33,7 +33,7 @@ loop-again : tie.Need-loop-again Inv-loop μ-loop
 unfolding dnsNameP
 loop-again c =
     let a = c .before .before .before in
-    let q = string-got 1 253 _ _ _ _ (sym (a .dns-name-at .ensures) ∙ ap spanned (c .before .name .given .1)) in
+    let q = string-got _ _ _ _ _ _ (sym (a .dns-name-at .ensures) ∙ ap spanned (c .before .name .given .1)) in
     row-next _ _ _ _ _ _ _ (a .before .before .loop .inv) (a .before .loop-test .taken) (ap passing q)
 
 enum-known-fault : tie.Need-enum-known-fault Inv-loop μ-loop
@@ -43,7 +43,7 @@ returns : tie.Need-returns Inv-loop μ-loop
 unfolding dnsNameP
 returns c =
     let a = c .before .before .before in
-    let q = string-stops 1 253 _ _ _ (sym (a .dns-name-at .ensures) ∙ ap spanned (c .before .fault .given .1)) in
+    let q = string-stops _ _ _ _ _ (sym (a .dns-name-at .ensures) ∙ ap spanned (c .before .fault .given .1)) in
     row-stops _ _ _ _ _ _ _ (a .before .before .loop .inv) (a .before .loop-test .taken) (ap passing q)
 
 returns-2 : tie.Need-returns-2 Inv-loop μ-loop

@@ -3,20 +3,22 @@
 use borrow.Author.Needs.{needs}
 use native.Mathlib.Omega.{arith}
 use Prim.Native.Nat.{_-_, _<_, _≤_}
+use mathlib.Core.Bool.{true, false}
 use mathlib.Core.Logic.{⊎-elim}
 use mathlib.Core.Path.{sym, ap, _∙_}
+use Rattle.places.specs.Limits.{bundleMost}
 use Rattle.record.specs.Certificate.{certificateOf}
 use Rattle.record.proofs.Meaning.{own-head}
 use Rattle.certificates.proofs.Records.{size-within}
 use Rattle.rules.specs.Limits.{limitOf}
 use Rattle.policy.specs.Sound.{betweenSound, placeOf, soundPlaces, placeLimits}
-use Rattle.policy.proofs.Places.{Judging, judging-starts, judging-joins, judging-passes, judging-ends}
+use Rattle.policy.proofs.Places.{Judging, judging-starts, judging-turn, judging-ends}
 use Rattle.policy.proofs.judged.places_between.Statement.{statement}
 use Rattle.policy.proofs.judged.places_between.Tie as tie
 
 abbrev Inv-loop : tie.InvT-loop
 Inv-loop file time bundle n sound₀ limits₀ i₀ sound limits i =
-    (n ≤ 16) × (i ≤ n) × Judging (λ j. betweenSound time (placeOf file bundle j)) (λ j. limitOf (placeOf file bundle j)) 16 sound limits i
+    (n ≤ bundleMost) × (i ≤ n) × Judging (λ j. betweenSound time (placeOf file bundle j)) (λ j. limitOf (placeOf file bundle j)) bundleMost sound limits i
 
 abbrev μ-loop : tie.MeasureT-loop
 μ-loop file time bundle n sound₀ limits₀ i₀ sound limits i = n - i
@@ -27,7 +29,7 @@ size-requires c κs = search needs
 loop-holds : tie.Need-loop-holds Inv-loop μ-loop
 loop-holds c =
     let n = c .size .ensures in
-    (rw n (size-within 16 _), omega arith, judging-starts _ _ 16)
+    (rw n (size-within bundleMost _), omega arith, judging-starts _ _ bundleMost)
 
 record-requires : tie.Need-record-requires Inv-loop μ-loop
 record-requires c κs = search needs
@@ -68,11 +70,11 @@ loop-again c =
     let own = own-head _ _ s (h .head .ensures) ∙ ap (λ r. certificateOf r s) (p .record .ensures) in
     let limit = l .limit .ensures ∙ ap limitOf own in
     let test = sym (c .before .between-sound .ensures ∙ ap (betweenSound (a .time)) own) in
-    let room : t .before .loop .i < 16 = omega arith in (
+    let room : t .before .loop .i < bundleMost = omega arith in (
       omega arith,
       omega arith,
-      ⊎-elim (λ w. judging-joins _ _ _ _ _ _ (j .2) room _ _ limit (test ∙ w .0 .taken) (w .2 ∙ w .1 .ensures))
-          (λ w. judging-passes _ _ _ _ _ _ (j .2) room _ _ limit (test ∙ w .0 .left) (w .1))
+      ⊎-elim (λ w. judging-turn _ _ _ _ _ _ (j .2) room _ _ true limit (test ∙ w .0 .taken) (w .2 ∙ w .1 .ensures))
+          (λ w. judging-turn _ _ _ _ _ _ (j .2) room _ _ false limit (test ∙ w .0 .left) (w .1))
           (c .if1 .came),
     )
 

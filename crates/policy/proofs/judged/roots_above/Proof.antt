@@ -3,8 +3,10 @@
 use borrow.Author.Needs.{needs}
 use native.Mathlib.Omega.{arith}
 use Prim.Native.Nat.{_-_, _≤_}
+use mathlib.Core.Bool.{true, false}
 use mathlib.Core.Logic.{⊎-elim}
 use mathlib.Core.Path.{_≡_, sym, ap, _∙_}
+use Rattle.places.specs.Limits.{rootsMost}
 use Rattle.record.specs.Certificate.{certificateOf}
 use Rattle.record.proofs.Meaning.{own-head}
 use Rattle.certificates.proofs.Records.{size-within}
@@ -12,18 +14,18 @@ use Rattle.rows.specs.Rows.{left, lowest}
 use Rattle.rows.proofs.Taking.{lowest-grows}
 use Rattle.rules.specs.Limits.{limitOf}
 use Rattle.policy.specs.Sound.{topSound, rootOf, soundRoots, rootLimits}
-use Rattle.policy.proofs.Asking.{Asking, asking-starts, asking-joins, asking-passes, asking-ends}
+use Rattle.policy.proofs.Asking.{Asking, asking-starts, asking-turn, asking-ends}
 use Rattle.policy.proofs.judged.roots_above.Statement.{statement}
 use Rattle.policy.proofs.judged.roots_above.Tie as tie
 
-few : 32 ≤ 64
+few : rootsMost ≤ 64
 few = omega arith
 
 abbrev Inv-loop : tie.InvT-loop
 Inv-loop file time asked roots n sound₀ limits₀ rest₀ i₀ sound limits rest i =
-    (n ≤ 32)
+    (n ≤ rootsMost)
     × (i ≡ lowest rest)
-    × Asking asked (λ j. topSound time (rootOf file roots j)) (λ j. limitOf (rootOf file roots j)) 32 few sound limits rest n
+    × Asking asked (λ j. topSound time (rootOf file roots j)) (λ j. limitOf (rootOf file roots j)) rootsMost few sound limits rest n
 
 abbrev μ-loop : tie.MeasureT-loop
 μ-loop file time asked roots n sound₀ limits₀ rest₀ i₀ sound limits rest i = 64 - i
@@ -35,7 +37,7 @@ lowest-requires : tie.Need-lowest-requires Inv-loop μ-loop
 lowest-requires c κs = search needs
 
 loop-holds : tie.Need-loop-holds Inv-loop μ-loop
-loop-holds c = (rw (c .before .size .ensures) (size-within 32 _), c .lowest .ensures, asking-starts _ _ _ 32 few _)
+loop-holds c = (rw (c .before .size .ensures) (size-within rootsMost _), c .lowest .ensures, asking-starts _ _ _ rootsMost few _)
 
 record-requires : tie.Need-record-requires Inv-loop μ-loop
 record-requires c κs = search needs
@@ -91,8 +93,8 @@ loop-again c =
       j .0,
       c .lowest2 .ensures,
       rw rest
-          (⊎-elim (λ w. asking-joins _ _ _ _ few _ _ _ _ (j .2) (j .0) _ (j .1) (t .loop-test .taken) _ _ limit (test ∙ w .0 .taken) (w .2 ∙ w .1 .ensures))
-          (λ w. asking-passes _ _ _ _ few _ _ _ _ (j .2) (j .0) _ (j .1) (t .loop-test .taken) _ _ limit (test ∙ w .0 .left) (w .1))
+          (⊎-elim (λ w. asking-turn _ _ _ _ few _ _ _ _ (j .2) (j .0) _ (j .1) (t .loop-test .taken) _ _ true limit (test ∙ w .0 .taken) (w .2 ∙ w .1 .ensures))
+          (λ w. asking-turn _ _ _ _ few _ _ _ _ (j .2) (j .0) _ (j .1) (t .loop-test .taken) _ _ false limit (test ∙ w .0 .left) (w .1))
           (f .if1 .came)),
     )
 

@@ -2,6 +2,7 @@
 use native.Mathlib.Omega.{arith}
 use mathlib.Core.Path.{refl}
 use lib.ListN.{length-map, length-append}
+use Rattle.places.specs.Limits.{rootsMost, bundleMost}
 use Rattle.policy.proofs.Filling.{limited, seats-filled, second-lent, second-back}
 use borrow.Author.Needs.{needs}
 use Rattle.policy.proofs.seating.seats_of.Statement.{statement}
@@ -30,8 +31,8 @@ slice-aggregate-fill c = search needs
 
 fill-requires : tie.Need-fill-requires
 fill-requires c κs =
-    let places = simp length-map at (c .before .before .before .before .before .before .good .0 .1 .1 .0 .1 .1 .1 .0 .1 .0 .1) in
-    (refl, rw (c .before .shared .ensures, c .before .before .below .ensures) (limited _ 16 _ places (omega arith)))
+    let places = simp length-map at (c .before .before .before .before .before .before .good .0 .1 .1 .1 .0 .1 .1 .1 .0 .1 .0 .1) in
+    (refl, rw (c .before .shared .ensures, c .before .before .below .ensures) (limited _ bundleMost _ places (omega arith)))
 
 sub-fill-2 : tie.Need-sub-fill-2
 sub-fill-2 c = search needs
@@ -57,8 +58,8 @@ slice-aggregate-fill-2 c = search needs
 fill-requires-2 : tie.Need-fill-requires-2
 fill-requires-2 c κs =
     let f = c .before .before .before .before .before .fill in
-    let roots = simp length-map at (c .before .before .before .before .before .before .before .before .before .before .before .before .good .0 .1 .1 .1 .0 .1 .1 .1 .0 .1 .0 .1) in
-    (second-lent (f .last .0) (f .ensures .size), rw (c .before .shared2 .ensures, c .before .before .below2 .ensures) (limited _ 32 _ roots (omega arith)))
+    let roots = simp length-map at (c .before .before .before .before .before .before .before .before .before .before .before .before .good .0 .1 .1 .1 .1 .0 .1 .1 .1 .0 .1 .0 .1) in
+    (second-lent (f .last .0) (f .ensures .size), rw (c .before .shared2 .ensures, c .before .before .below2 .ensures) (limited _ rootsMost _ roots (omega arith)))
 
 returns : tie.Need-returns
 returns c =

@@ -39,7 +39,7 @@ returns c =
     let n = m .before .before .before in
     let a = n .before .before in
     let q = sym (a .dns-name-at .ensures) ∙ ap spanned (n .name .given .1) in
-    any-found _ _ _ _ _ _ _ _ _ (a .before .before .loop .inv) (a .before .loop-test .taken) (string-got 1 253 _ _ _ _ q)
+    any-found _ _ _ _ _ _ _ _ _ (a .before .before .loop .inv) (a .before .loop-test .taken) (string-got _ _ _ _ _ _ q)
     (rw (m .before .part .ensures) at (sym (m .match-lowered .ensures) ∙ c .if1 .taken))
 
 sub-left : tie.Need-sub-left Inv-loop μ-loop
@@ -55,7 +55,7 @@ loop-again c =
     let n = m .before .before .before in
     let a = n .before .before in
     let q = sym (a .dns-name-at .ensures) ∙ ap spanned (n .name .given .1) in
-    any-next _ _ _ _ _ _ _ _ _ (a .before .before .loop .inv) (a .before .loop-test .taken) (string-got 1 253 _ _ _ _ q)
+    any-next _ _ _ _ _ _ _ _ _ (a .before .before .loop .inv) (a .before .loop-test .taken) (string-got _ _ _ _ _ _ q)
     (rw (m .before .part .ensures) at (sym (m .match-lowered .ensures) ∙ c .if1 .left))
 
 enum-told : tie.Need-enum-told Inv-loop μ-loop
@@ -66,7 +66,7 @@ unfolding dnsNameP
 returns-2 c =
     let a = c .before .before in
     let q = sym (a .dns-name-at .ensures) ∙ ap spanned (c .enum-told .given .1) in
-    any-stops _ _ _ _ _ _ _ _ (a .before .before .loop .inv) (a .before .loop-test .taken) (string-stops 1 253 _ _ _ q)
+    any-stops _ _ _ _ _ _ _ _ (a .before .before .loop .inv) (a .before .loop-test .taken) (string-stops _ _ _ _ _ q)
 
 returns-3 : tie.Need-returns-3 Inv-loop μ-loop
 returns-3 c = any-ends _ _ _ _ _ _ _ (c .before .loop .inv) (c .loop-test .left)

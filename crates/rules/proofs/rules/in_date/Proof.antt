@@ -11,7 +11,7 @@ returns c = λ cert s. rw (lt-leb _ _ (c .if1 .taken))
 
 returns-2 : tie.Need-returns-2
 unfolding inDate certificateBy
-returns-2 c = λ cert s. rw (le-leb _ _ (c .before .if1 .left))
+returns-2 c = λ cert s. rw (le-leb _ _ (c .before .before .if1 .left))
 
 pub in-date-spec : {M : Type 1} → statement M
 in-date-spec = tie.close (tie.spec returns returns-2)

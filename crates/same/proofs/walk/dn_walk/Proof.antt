@@ -1,9 +1,11 @@
 -- `dn_walk` walks the RDNs of two names, which differ where their counts do. Assumes nothing.
 use mathlib.Core.Path.{sym, ap, _∙_}
+use lib.Dec.{eqb}
+use borrow.Author.Tests.{ne-eqb}
 use Rattle.names.specs.Names.{rdnP, nameP}
 use Rattle.names.specs.Answers.{nameBegun}
-use Rattle.same.specs.Same.{sameRdn, sameDn}
-use Rattle.same.proofs.Walks.{counted-same, counted-uneven, no-count-left, no-count-right}
+use Rattle.same.specs.Same.{places, sameRdn, sameDn}
+use Rattle.same.proofs.Walks.{counted-fails, counted-same, no-count-left, no-count-right}
 use borrow.Author.Needs.{needs}
 use Rattle.same.proofs.walk.dn_walk.Statement.{statement}
 use Rattle.same.proofs.walk.dn_walk.Tie as tie
@@ -43,7 +45,7 @@ returns-3 c =
     let b = c .before .before .before .before .before in
     let a = b .before .before .before .before in
     c .rdns-walk .ensures
-    ∙ sym (counted-same (sameRdn _) rdnP _ _ _ _ _ _ _ _ _ _
+    ∙ sym (counted-same (places (sameRdn _)) rdnP _ _ _ _ _ _ _ _ _ _
     (sym (a .before .before .name-begins .ensures) ∙ ap nameBegun (a .left .given .1))
     (sym (b .before .before .name-begins2 .ensures) ∙ ap nameBegun (b .right .given .1))
     (c .before .if1 .taken))
@@ -53,10 +55,10 @@ unfolding nameP sameDn
 returns-4 c =
     let b = c .before .before .before .before in
     let a = b .before .before .before .before in
-    sym (counted-uneven (sameRdn _) rdnP _ _ _ _ _ _ _ _ _ _
+    sym (counted-fails eqb (places (sameRdn _)) rdnP _ _ _ _ _ _ _ _ _ _
     (sym (a .before .before .name-begins .ensures) ∙ ap nameBegun (a .left .given .1))
     (sym (b .before .before .name-begins2 .ensures) ∙ ap nameBegun (b .right .given .1))
-    (c .if1 .left))
+    (ne-eqb _ _ (c .if1 .left)))
 
 pub dn-walk-spec : {M : Type 1} → statement M
 dn-walk-spec =

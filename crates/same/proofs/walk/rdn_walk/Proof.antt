@@ -1,9 +1,11 @@
 -- `rdn_walk` walks the attributes of two RDNs, which differ where their counts do. Assumes nothing.
 use mathlib.Core.Path.{sym, ap, _∙_}
+use lib.Dec.{eqb}
+use borrow.Author.Tests.{ne-eqb}
 use Rattle.names.specs.Names.{attrP, rdnP}
 use Rattle.names.specs.Answers.{rdnBegun}
-use Rattle.same.specs.Same.{sameAttr, sameRdn}
-use Rattle.same.proofs.Walks.{counted-same, counted-uneven, no-count-left, no-count-right}
+use Rattle.same.specs.Same.{places, sameAttr, sameRdn}
+use Rattle.same.proofs.Walks.{counted-fails, counted-same, no-count-left, no-count-right}
 use borrow.Author.Needs.{needs}
 use Rattle.same.proofs.walk.rdn_walk.Statement.{statement}
 use Rattle.same.proofs.walk.rdn_walk.Tie as tie
@@ -43,7 +45,7 @@ returns-3 c =
     let b = c .before .before .before .before .before in
     let a = b .before .before .before .before in
     c .attrs-walk .ensures
-    ∙ sym (counted-same (sameAttr _) attrP _ _ _ _ _ _ _ _ _ _
+    ∙ sym (counted-same (places (sameAttr _)) attrP _ _ _ _ _ _ _ _ _ _
     (sym (a .before .before .rdn-begins .ensures) ∙ ap rdnBegun (a .a .given .1))
     (sym (b .before .before .rdn-begins2 .ensures) ∙ ap rdnBegun (b .b .given .1))
     (c .before .if1 .taken))
@@ -53,10 +55,10 @@ unfolding rdnP sameRdn
 returns-4 c =
     let b = c .before .before .before .before in
     let a = b .before .before .before .before in
-    sym (counted-uneven (sameAttr _) attrP _ _ _ _ _ _ _ _ _ _
+    sym (counted-fails eqb (places (sameAttr _)) attrP _ _ _ _ _ _ _ _ _ _
     (sym (a .before .before .rdn-begins .ensures) ∙ ap rdnBegun (a .a .given .1))
     (sym (b .before .before .rdn-begins2 .ensures) ∙ ap rdnBegun (b .b .given .1))
-    (c .if1 .left))
+    (ne-eqb _ _ (c .if1 .left)))
 
 pub rdn-walk-spec : {M : Type 1} → statement M
 rdn-walk-spec =

@@ -5,8 +5,9 @@ use native.Mathlib.Omega.{arith}
 use borrow.Author.Needs.{needs}
 use lib.ListN.{length, take, getD}
 use lib.Seq.{length-take-le}
+use Rattle.places.specs.Limits.{bundleMost}
 use Rattle.steps.specs.Parts.{pathOf, offered}
-use Rattle.steps.specs.Slots.{padded, slotOf}
+use Rattle.reply.specs.Slots.{slotBytes, padded, slotOf}
 use Rattle.steps.proofs.Laid.{slot-more, slot-path, Lying, lying-none, lying-more, room-more}
 use Rattle.steps.proofs.lay.lay.Statement.{statement}
 use Rattle.steps.proofs.lay.lay.Tie as tie
@@ -33,11 +34,11 @@ lay-row-requires c κs =
     let l = c .before .before .loop in
     let s = c .before .before .before .before in
     let path : pathOf (l .s) ≡ take (l .k) (s .args .t4) = slot-path (l .s) (take (l .k) (s .args .t4)) (l .inv .1 .0) in
-    let h : length (s .args .t4) ≡ 16 = search needs in
-    let b : l .k < 16 = omega arith in
+    let h : length (s .args .t4) ≡ bundleMost = search needs in
+    let b : l .k < bundleMost = omega arith in
     let z : length (take (l .k) (s .args .t4)) ≡ l .k = length-take-le (l .k) (s .args .t4) (omega arith) in
-    let short : length (pathOf (l .s)) < 16 = rw path (omega arith) in
-    let fits : 17 * (l .m + length (offered (s .args .n) (getD (s .args .t3) (l .k) 0) (pathOf (l .s)))) ≤ length (l .room) =
+    let short : length (pathOf (l .s)) < bundleMost = rw path (omega arith) in
+    let fits : slotBytes * (l .m + length (offered (s .args .n) (getD (s .args .t3) (l .k) 0) (pathOf (l .s)))) ≤ length (l .room) =
     rw path (room-more (s .args .n) (s .args .t3) (s .args .t4) (l .inv .1 .1) b h (s .args .depths) (c .before .loop-test .taken) (s .pre .1)) in
     ((l .inv .1 .0 ∙ ap slotOf (sym path), short), fits)
 
@@ -71,8 +72,8 @@ loop-again c =
     let l = c .before .before .before .before .before .loop in
     let s = c .before .before .before .before .before .before .before in
     let path : pathOf (l .s) ≡ take (l .k) (s .args .t4) = slot-path (l .s) (take (l .k) (s .args .t4)) (l .inv .1 .0) in
-    let h : length (s .args .t4) ≡ 16 = search needs in
-    let b : l .k < 16 = omega arith in (
+    let h : length (s .args .t4) ≡ bundleMost = search needs in
+    let b : l .k < bundleMost = omega arith in (
       omega arith,
       (
         slot-more (s .args .t4) (l .s) (l .k) b h (l .inv .1 .0),

@@ -11,7 +11,7 @@ use lib.ListN.{length, take-append-drop}
 use Rattle.order.specs.Walk.{snoc}
 use Rattle.rows.specs.Rows.{has}
 use Rattle.steps.specs.Parts.{pathOf, offered}
-use Rattle.steps.specs.Slots.{slotOf, flat}
+use Rattle.reply.specs.Slots.{slotBytes, slotOf, flat}
 use Rattle.steps.proofs.Laid.{offered-yes, offered-no, child-below, child-room}
 use Rattle.steps.proofs.Stack.{slot-len, laidOut, slot-next}
 use Rattle.steps.proofs.lay.lay_row.Statement.{statement}
@@ -26,7 +26,7 @@ abbrev μ-loop : tie.MeasureT-loop
 
 loop-holds : tie.Need-loop-holds Inv-loop μ-loop
 unfolding offered flat
-loop-holds c = (omega arith, (omega arith, (sym (take-append-drop (17 * c .before .args .m) (c .before .args .room .now)), refl)))
+loop-holds c = (omega arith, (omega arith, (sym (take-append-drop (slotBytes * c .before .args .m) (c .before .args .room .now)), refl)))
 
 has-requires : tie.Need-has-requires Inv-loop μ-loop
 has-requires c κs = search needs
@@ -45,7 +45,7 @@ put-child-requires : tie.Need-put-child-requires Inv-loop μ-loop
 put-child-requires c κs =
     let s = c .before .before .before .before .before .before in
     let l = c .before .before .before .before .loop in
-    let g : 17 * l .top + 17 ≤ length (l .room) = omega (arith, fewer (c .before), l .inv, s .pre) in
+    let g : slotBytes * l .top + slotBytes ≤ length (l .room) = omega (arith, fewer (c .before), l .inv, s .pre) in
     (g, omega (arith, slot-len (s .args .s) (s .pre .0 .0), s .pre .0 .1))
 
 add-top : tie.Need-add-top Inv-loop μ-loop
@@ -68,8 +68,8 @@ loop-again c =
     (λ w.
     let t : tie.Then1 Inv-loop μ-loop = record { before = c .before; if1 = w .0 } in
     let y = yes t in
-    let r : c .if1 .room ≡ paste (l .room) (17 * l .top) (slotOf (snoc (pathOf (a .s)) (l .i))) 17 =
-    w .5 ∙ w .2 .ensures ∙ ap (λ (k : List ℕ). paste (l .room) (17 * l .top) k 17) (slot-next (a .s) (l .i) (s .pre .0 .0) (s .pre .0 .1)) in (
+    let r : c .if1 .room ≡ paste (l .room) (slotBytes * l .top) (slotOf (snoc (pathOf (a .s)) (l .i))) slotBytes =
+    w .5 ∙ w .2 .ensures ∙ ap (λ (k : List ℕ). paste (l .room) (slotBytes * l .top) k slotBytes) (slot-next (a .s) (l .i) (s .pre .0 .0) (s .pre .0 .1)) in (
       omega arith,
       (
         w .6 ∙ omega (arith, l .inv .1 .0, ap length (offered-yes (a .row) (pathOf (a .s)) (l .i) y)),

@@ -1,10 +1,11 @@
 -- `put_child` puts a path's child in a slot. Assumes nothing.
 use borrow.Author.Needs.{needs}
 use mathlib.Core.Path.{_≡_}
-use Prim.Native.Nat.{_+_, _*_}
+use Prim.Native.Nat.{_+_, _*_, _<_}
 use native.Mathlib.Omega.{arith}
 use lib.ListN.{length, getD, length-set}
-use Rattle.steps.proofs.Lists.{paste-child}
+use Rattle.reply.specs.Slots.{slotBytes}
+use Rattle.reply.proofs.Room.{paste-child}
 use Rattle.steps.proofs.lay.put_child.Statement.{statement}
 use Rattle.steps.proofs.lay.put_child.Tie as tie
 
@@ -50,8 +51,9 @@ returns : tie.Need-returns
 returns c =
     let s = c .before .before .before .before .before in
     let a = s .args in
-    let e : length (a .t3) ≡ 17 = search needs in
-    paste-child (a .room .now) (c .before .before .write-slot .last .0) (a .t3) (17 * a .t) (getD (a .t3) 0 0) (a .i) (getD (a .t3) 0 0 + 1) (s .pre .0) e (s .pre .1) (c .before .before .write-slot .ensures)
+    let e : length (a .t3) ≡ slotBytes = search needs in
+    let b : getD (a .t3) 0 0 + 1 < slotBytes = omega (arith, s .pre .1) in
+    paste-child slotBytes (a .room .now) (c .before .before .write-slot .last .0) (a .t3) (slotBytes * a .t) (getD (a .t3) 0 0) (a .i) (getD (a .t3) 0 0 + 1) (s .pre .0) e b (c .before .before .write-slot .ensures)
 
 pub put-child-spec : {M : Type 1} → statement M
 put-child-spec =

@@ -6,21 +6,22 @@ use borrow.Author.Needs.{needs}
 use native.Mathlib.Omega.{arith}
 use lib.ListN.{length, getD, set, length-set}
 use lib.Seq.{paste, paste-zero}
-use Rattle.steps.proofs.Lists.{paste-more}
+use Rattle.reply.specs.Slots.{slotBytes}
+use Rattle.reply.proofs.Room.{paste-more}
 use Rattle.steps.proofs.room.write_slot.Statement.{statement}
 use Rattle.steps.proofs.room.write_slot.Tie as tie
 
 abbrev Inv-loop : tie.InvT-loop
-Inv-loop room₀ t s at j₀ room j = (j ≤ 17) × ((room ≡ paste room₀ at s j) × (length room ≡ length room₀))
+Inv-loop room₀ t s at j₀ room j = (j ≤ slotBytes) × ((room ≡ paste room₀ at s j) × (length room ≡ length room₀))
 
 abbrev μ-loop : tie.MeasureT-loop
-μ-loop room₀ t s at j₀ room j = 17 - j
+μ-loop room₀ t s at j₀ room j = slotBytes - j
 
 mul-at : tie.Need-mul-at Inv-loop μ-loop
 mul-at c = omega arith
 
 loop-holds : tie.Need-loop-holds Inv-loop μ-loop
-loop-holds c = (omega arith, (paste-zero (c .args .room .now) (17 * c .args .t) (c .args .t3), refl))
+loop-holds c = (omega arith, (paste-zero (c .args .room .now) (slotBytes * c .args .t) (c .args .t3), refl))
 
 array-read-room : tie.Need-array-read-room Inv-loop μ-loop
 array-read-room c = omega arith
@@ -41,10 +42,10 @@ loop-again : tie.Need-loop-again Inv-loop μ-loop
 loop-again c =
     let l = c .before .loop in
     let a = c .before .before .args in
-    let k : 17 * a .t + l .j < length (a .room .now) = omega arith in
-    let e : length (a .t3) ≡ 17 = search needs in
+    let k : slotBytes * a .t + l .j < length (a .room .now) = omega arith in
+    let e : length (a .t3) ≡ slotBytes = search needs in
     let k17 : l .j < length (a .t3) = omega arith in
-    (omega arith, (ap (λ (x : List ℕ). set x (17 * a .t + l .j) (getD (a .t3) (l .j) 0)) (l .inv .1 .0) ∙ paste-more (a .room .now) (17 * a .t) (a .t3) (l .j) k k17, simp length-set (l .inv .1 .1)))
+    (omega arith, (ap (λ (x : List ℕ). set x (slotBytes * a .t + l .j) (getD (a .t3) (l .j) 0)) (l .inv .1 .0) ∙ paste-more (a .room .now) (slotBytes * a .t) (a .t3) (l .j) k k17, simp length-set (l .inv .1 .1)))
 
 same-length : tie.Need-same-length Inv-loop μ-loop
 same-length c = c .before .loop .inv .1 .1
@@ -52,7 +53,7 @@ same-length c = c .before .loop .inv .1 .1
 returns : tie.Need-returns Inv-loop μ-loop
 returns c =
     let l = c .before .loop in
-    let e : l .j ≡ 17 = omega arith in
+    let e : l .j ≡ slotBytes = omega arith in
     l .inv .1 .0 ∙ rw e
 
 pub write-slot-spec : {M : Type 1} → statement M

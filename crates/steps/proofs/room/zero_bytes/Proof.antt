@@ -4,7 +4,7 @@ use mathlib.Core.List.{List}
 use Prim.Native.Nat.{ℕ, _-_, _≤_, _<_}
 use native.Mathlib.Omega.{arith}
 use lib.ListN.{length, set, length-set}
-use Rattle.steps.proofs.Lists.{zeroed, zeroed-none, zeroed-more}
+use Rattle.reply.proofs.Room.{zeroed, zeroed-none, zeroed-more}
 use Rattle.steps.proofs.room.zero_bytes.Statement.{statement}
 use Rattle.steps.proofs.room.zero_bytes.Tie as tie
 

@@ -11,13 +11,17 @@ first-requires : tie.Need-first-requires
 first-requires c κs = search needs
 
 walk-requires : tie.Need-walk-requires
-walk-requires c κs = let s = c .before .before .before .before .before .before .before .before .before in
-    (s .pre .1, c .before .before .before .first .ensures .0 (s .args .issuing .bundle))
+walk-requires c κs =
+    let f = c .before .before .before in
+    let s = f .before .before .before .before .before .before .before in
+    (s .pre .1, f .first .ensures .0 (s .args .judged .issuing .bundle))
 
 returns : tie.Need-returns
-returns c = let s = c .before .before .before .before .before .before .before .before .before .before in
-    settled (s .args .issuing) (s .args .judged) (s .args .n) (s .pre .0) (s .pre .1) _ (c .before .before .before .before .before .before .before .seats-of .ensures)
-    (rw (c .before .before .before .before .first .ensures .1) at (c .walk .ensures))
+returns c =
+    let f = c .before .before .before .before in
+    let t = f .before .before .before in
+    let s = t .before .before .before .before in
+    settled (s .args .judged) (s .args .n) (s .pre .0) (s .pre .1) _ (t .seats-of .ensures) (rw (f .first .ensures .1) at (c .walk .ensures))
 
 pub run-spec : {M : Type 1} → statement M
 run-spec = tie.close (tie.spec seats-of-requires first-requires walk-requires returns)

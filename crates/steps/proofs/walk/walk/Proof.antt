@@ -7,12 +7,13 @@ use mathlib.Core.Path.{_≡_, refl, ap, _∙_}
 use mathlib.Core.List.{List, [], _∷_}
 use mathlib.Core.Logic.{⊎-elim}
 use lib.ListN.{take, set}
+use Rattle.places.specs.Limits.{bundleMost}
 use Rattle.order.specs.Paths.{Places}
 use Rattle.order.specs.Walk.{snoc, pops, top}
 use Rattle.policy.specs.Standing.{rootsOver}
 use Rattle.rows.specs.Rows.{joined, left}
-use Rattle.steps.specs.Answer.{placesBy}
-use Rattle.steps.specs.Parts.{rootsBy, waiting, stackOf}
+use Rattle.question.specs.Question.{placesBy}
+use Rattle.steps.specs.Parts.{rootsSeated, waiting, stackOf}
 use Rattle.steps.proofs.Ends.{Going, vain-none, vain-more, stop-refused, stop-exhausted, stop-accepted}
 use Rattle.steps.proofs.Levels.{Stands, stands-start, climbed, place-low, met, path-is, roots-are, stayed, sank}
 use Rattle.steps.proofs.Least.{row-found, row-none}
@@ -21,7 +22,7 @@ use Rattle.steps.proofs.walk.walk.Tie as tie
 
 abbrev Inv-loop : tie.InvT-loop
 Inv-loop n rows roots seats budget ahead₀ levels₀ place₀ d₀ row₀ here₀ steps₀ ahead levels place d row here steps =
-    Going (placesBy rows n) (rootsBy roots seats) seats budget (waiting n ahead₀ place₀ (d₀ + 1)) ahead levels place row here d steps
+    Going (placesBy rows n) (rootsSeated roots seats) seats budget (waiting n ahead₀ place₀ (d₀ + 1)) ahead levels place row here d steps
 
 abbrev μ-loop : tie.MeasureT-loop
 μ-loop n rows roots seats budget ahead₀ levels₀ place₀ d₀ row₀ here₀ steps₀ ahead levels place d row here steps =
@@ -110,8 +111,8 @@ cast-children c = search needs
 mul-children : tie.Need-mul-children Inv-loop μ-loop
 mul-children c = search needs
 
--- the place that is taken is below 16
-low : (c : tie.After-without Inv-loop μ-loop) → c .before .before .before .before .highest .result < 16
+-- the place that is taken is below the bundle's limit
+low : (c : tie.After-without Inv-loop μ-loop) → c .before .before .before .before .highest .result < bundleMost
 low c =
     let h = c .before .before .before .before in
     let S = h .before .loop .inv .stands in

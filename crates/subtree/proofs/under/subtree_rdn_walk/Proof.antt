@@ -1,42 +1,15 @@
--- `subtree_rdn_walk` walks past two RDNs that can be read, where the first has no more attributes and the second has each of them.
--- Assumes nothing.
+-- `subtree_rdn_walk` walks past two RDNs where the first has no more attributes and each has a match in the second. Assumes nothing.
 use mathlib.Core.Path.{sym, ap, _∙_}
-use Rattle.fields.specs.Answers.{passed}
-use Rattle.fields.proofs.Ends.{passing-stops}
-use Rattle.names.specs.Names.{rdnP}
-use Rattle.subtree.specs.Subtree.{isSubtreeRdn}
+use lib.Dec.{leb}
+use borrow.Author.Tests.{le-leb, lt-leb}
+use Rattle.names.specs.Names.{attrP, rdnP}
 use Rattle.names.specs.Answers.{rdnBegun}
-use Rattle.same.proofs.Walks.{stop-right, no-count-left, no-count-right}
-use Rattle.subtree.proofs.Rows.{rdn-row, longer-differs, standing-judged}
+use Rattle.same.specs.Same.{matched}
+use Rattle.same.proofs.Walks.{counted-passes, counted-fails, no-count-left, no-count-right}
+use Rattle.subtree.specs.Subtree.{isSubtreeRdn}
 use borrow.Author.Needs.{needs}
 use Rattle.subtree.proofs.under.subtree_rdn_walk.Statement.{statement}
 use Rattle.subtree.proofs.under.subtree_rdn_walk.Tie as tie
-
-rdn-at-requires : tie.Need-rdn-at-requires
-rdn-at-requires c κs = search needs
-
-enum-known-left : tie.Need-enum-known-left
-enum-known-left c = search needs
-
-enum-told : tie.Need-enum-told
-enum-told c = search needs
-
-returns : tie.Need-returns
-returns c = rw (passing-stops (rdnP _ _) _ (sym (c .before .before .rdn-at .ensures) ∙ ap passed (c .enum-told .given .1)))
-
-rdn-at-requires-2 : tie.Need-rdn-at-requires-2
-rdn-at-requires-2 c κs = search needs
-
-enum-known-right : tie.Need-enum-known-right
-enum-known-right c = search needs
-
-enum-told-2 : tie.Need-enum-told-2
-enum-told-2 c = search needs
-
-returns-2 : tie.Need-returns-2
-returns-2 c =
-    rw (passing-stops (rdnP _ _) _ (sym (c .before .before .rdn-at2 .ensures) ∙ ap passed (c .enum-told2 .given .1)))
-    (sym (stop-right (isSubtreeRdn _) (rdnP _ _) _))
 
 rdn-begins-requires : tie.Need-rdn-begins-requires
 rdn-begins-requires c κs = search needs
@@ -44,12 +17,12 @@ rdn-begins-requires c κs = search needs
 enum-known-a : tie.Need-enum-known-a
 enum-known-a c = search needs
 
-enum-told-3 : tie.Need-enum-told-3
-enum-told-3 c = search needs
+enum-told : tie.Need-enum-told
+enum-told c = search needs
 
-returns-3 : tie.Need-returns-3
+returns : tie.Need-returns
 unfolding rdnP
-returns-3 c = sym (no-count-left _ _ _ _ _ _ _ _ _ (sym (c .before .before .rdn-begins .ensures) ∙ ap rdnBegun (c .enum-told3 .given .1)))
+returns c = sym (no-count-left (isSubtreeRdn _) attrP _ _ _ _ _ _ _ (sym (c .before .before .rdn-begins .ensures) ∙ ap rdnBegun (c .enum-told .given .1)))
 
 rdn-begins-requires-2 : tie.Need-rdn-begins-requires-2
 rdn-begins-requires-2 c κs = search needs
@@ -57,78 +30,49 @@ rdn-begins-requires-2 c κs = search needs
 enum-known-b : tie.Need-enum-known-b
 enum-known-b c = search needs
 
-enum-told-4 : tie.Need-enum-told-4
-enum-told-4 c = search needs
+enum-told-2 : tie.Need-enum-told-2
+enum-told-2 c = search needs
 
-returns-4 : tie.Need-returns-4
+returns-2 : tie.Need-returns-2
 unfolding rdnP
-returns-4 c = sym (no-count-right _ _ _ _ _ _ _ _ _ (sym (c .before .before .rdn-begins2 .ensures) ∙ ap rdnBegun (c .enum-told4 .given .1)))
+returns-2 c = sym (no-count-right (isSubtreeRdn _) attrP _ _ _ _ _ _ _ (sym (c .before .before .rdn-begins2 .ensures) ∙ ap rdnBegun (c .enum-told2 .given .1)))
 
-returns-5 : tie.Need-returns-5
+returns-3 : tie.Need-returns-3
 unfolding rdnP isSubtreeRdn
-returns-5 c =
+returns-3 c =
     let b = c .before .before .before .before in
     let a = b .before .before .before .before in
-    let r = a .before .before .before .before in
-    let l = r .before .before .before .before in
-    let left-ends = sym (l .before .before .rdn-at .ensures) ∙ ap passed (l .left .given .1) in
-    let right-ends = sym (r .before .before .rdn-at2 .ensures) ∙ ap passed (r .right .given .1) in
-    let left = rdn-row _ _ _ _ _ (a .before .before .rdn-begins .ensures) (a .a .given .1) left-ends in
-    let right = rdn-row _ _ _ _ _ (b .before .before .rdn-begins2 .ensures) (b .b .given .1) right-ends in
-    sym (longer-differs left right _ (c .if1 .taken))
+    sym (counted-fails leb (matched _) attrP _ _ _ _ _ _ _ _ _ _
+    (sym (a .before .before .rdn-begins .ensures) ∙ ap rdnBegun (a .a .given .1))
+    (sym (b .before .before .rdn-begins2 .ensures) ∙ ap rdnBegun (b .b .given .1))
+    (lt-leb _ _ (c .if1 .taken)))
 
-has-names-requires : tie.Need-has-names-requires
-has-names-requires c κs = search needs
+matched-walk-requires : tie.Need-matched-walk-requires
+matched-walk-requires c κs = search needs
 
-returns-6 : tie.Need-returns-6
+returns-4 : tie.Need-returns-4
 unfolding rdnP isSubtreeRdn
-returns-6 c =
-    let b = c .before .before .before .before .before .before in
+returns-4 c =
+    let b = c .before .before .before .before .before in
     let a = b .before .before .before .before in
-    let r = a .before .before .before .before in
-    let l = r .before .before .before .before in
-    let left-ends = sym (l .before .before .rdn-at .ensures) ∙ ap passed (l .left .given .1) in
-    let right-ends = sym (r .before .before .rdn-at2 .ensures) ∙ ap passed (r .right .given .1) in
-    let left = rdn-row _ _ _ _ _ (a .before .before .rdn-begins .ensures) (a .a .given .1) left-ends in
-    let right = rdn-row _ _ _ _ _ (b .before .before .rdn-begins2 .ensures) (b .b .given .1) right-ends in
-    sym (standing-judged left right _ _ _ (c .before .before .if1 .left) left-ends right-ends
-    ∙ rw (← c .before .has-names .ensures, c .if2 .taken))
-
-returns-7 : tie.Need-returns-7
-unfolding rdnP isSubtreeRdn
-returns-7 c =
-    let b = c .before .before .before .before .before .before in
-    let a = b .before .before .before .before in
-    let r = a .before .before .before .before in
-    let l = r .before .before .before .before in
-    let left-ends = sym (l .before .before .rdn-at .ensures) ∙ ap passed (l .left .given .1) in
-    let right-ends = sym (r .before .before .rdn-at2 .ensures) ∙ ap passed (r .right .given .1) in
-    let left = rdn-row _ _ _ _ _ (a .before .before .rdn-begins .ensures) (a .a .given .1) left-ends in
-    let right = rdn-row _ _ _ _ _ (b .before .before .rdn-begins2 .ensures) (b .b .given .1) right-ends in
-    sym (standing-judged left right _ _ _ (c .before .before .if1 .left) left-ends right-ends
-    ∙ rw (← c .before .has-names .ensures, c .if2 .left))
+    c .matched-walk .ensures
+    ∙ sym (counted-passes leb (matched _) attrP _ _ _ _ _ _ _ _ _ _
+    (sym (a .before .before .rdn-begins .ensures) ∙ ap rdnBegun (a .a .given .1))
+    (sym (b .before .before .rdn-begins2 .ensures) ∙ ap rdnBegun (b .b .given .1))
+    (le-leb _ _ (c .before .if1 .left)))
 
 pub subtree-rdn-walk-spec : {M : Type 1} → statement M
 subtree-rdn-walk-spec =
     tie.close
     (tie.spec
-    rdn-at-requires
-    enum-known-left
-    enum-told
-    returns
-    rdn-at-requires-2
-    enum-known-right
-    enum-told-2
-    returns-2
     rdn-begins-requires
     enum-known-a
-    enum-told-3
-    returns-3
+    enum-told
+    returns
     rdn-begins-requires-2
     enum-known-b
-    enum-told-4
-    returns-4
-    returns-5
-    has-names-requires
-    returns-6
-    returns-7)
+    enum-told-2
+    returns-2
+    returns-3
+    matched-walk-requires
+    returns-4)

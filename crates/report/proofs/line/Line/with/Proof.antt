@@ -5,13 +5,14 @@ use Prim.Native.Nat.{_+_, _-_, _≤_, _<_}
 use native.Mathlib.Omega.{arith}
 use lib.ListN.{length, set, getD, length-set}
 use lib.Seq.{paste, paste-zero}
-use Rattle.steps.proofs.Lists.{paste-more}
+use Rattle.reply.proofs.Room.{paste-more}
+use Rattle.report.specs.Lines.{lineMost}
 use Rattle.report.proofs.Growing.{grown}
 use Rattle.report.proofs.line.Line.with.Statement.{statement}
 use Rattle.report.proofs.line.Line.with.Tie as tie
 
 abbrev Inv-loop : tie.InvT-loop
-Inv-loop more at bytes₀ j₀ bytes j = (j ≤ length more) × ((bytes ≡ paste bytes₀ at more j) × ((length bytes₀ ≡ 112) × (length bytes ≡ 112)))
+Inv-loop more at bytes₀ j₀ bytes j = (j ≤ length more) × ((bytes ≡ paste bytes₀ at more j) × ((length bytes₀ ≡ lineMost) × (length bytes ≡ lineMost)))
 
 abbrev μ-loop : tie.MeasureT-loop
 μ-loop more at bytes₀ j₀ bytes j = length more - j
@@ -19,7 +20,7 @@ abbrev μ-loop : tie.MeasureT-loop
 loop-holds : tie.Need-loop-holds Inv-loop μ-loop
 loop-holds c =
     let a = c .before .args in
-    let e : length (a .self .bytes) ≡ 112 = search needs in
+    let e : length (a .self .bytes) ≡ lineMost = search needs in
     (omega arith, (paste-zero (a .self .bytes) (a .self .length) (a .more .now), (e, e)))
 
 shared-slice-read-bytes : tie.Need-shared-slice-read-bytes Inv-loop μ-loop

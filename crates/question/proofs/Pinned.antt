@@ -1,0 +1,17 @@
+-- No two questions of a file are told alike: what `pose` promises pins its answer down, a question and a fault alike. Assumes nothing.
+use Prim.Native.Nat.{ℕ}
+use mathlib.Core.Path.{_≡_, ap}
+use Rattle.fields.proofs.Pinned.{pins}
+use Rattle.card.proofs.Pinned.{outcomeOf, outcome-again}
+use Rattle.question.specs.declared.Posed.{Posed}
+use Rattle.question.specs.declared.Question.{Question}
+use Rattle.question.specs.Question.{told}
+
+pub told-pins : (a b : Posed) → told a ≡ told b → a ≡ b
+told-pins = pins told back again
+  where
+    back : ℕ × Question → Posed
+    back p = record { outcome = outcomeOf (p .0); question = p .1 }
+
+    again : (a : Posed) → back (told a) ≡ a
+    again a = ap (λ o. record { outcome = o; question = a .question }) (outcome-again (a .outcome))

@@ -1,0 +1,11 @@
+pub mod Agree
+pub mod Examples
+pub mod Exists
+pub mod Faults
+pub mod Least
+pub mod Room
+pub mod Settled
+pub mod Shown
+pub mod Slots
+pub mod Total
+pub mod Unique

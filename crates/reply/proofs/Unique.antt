@@ -1,0 +1,98 @@
+-- At most one outcome settles a search (`settles-unique`), a budget that covers all paths brings a yes or a no (`covers`), and what a
+-- paused run and a search must answer and leave is one answer and one room (`paused-one`, `search-one`). Assumes nothing.
+use mathlib.Core.List.{List}
+use mathlib.Core.Logic.{⊎-elim}
+use mathlib.Core.Path.{_≡_, refl, sym, ap, ap₂, _∙_}
+use Prim.Native.Nat.{ℕ, zero, suc, _≤_, zero-le, suc-le-suc}
+use native.Mathlib.Nat.{le-antisymm}
+use native.Mathlib.Omega.{arith}
+use lib.ListN.{length}
+use Rattle.order.specs.Paths.{Places, Count}
+use Rattle.order.proofs.Order.{same-or-before}
+use Rattle.order.proofs.Rank.{rank-unique, count-unique}
+use Rattle.order.proofs.Waiting.{after-unique}
+use Rattle.reply.specs.declared.Reply.{Reply}
+use Rattle.reply.specs.declared.path.Path.{Path}
+use Rattle.reply.specs.declared.Answer.{Answer}
+use Rattle.reply.specs.Answer.{saying, shown, pathShown, Tells, Paused, Searched, Stops, Answered, fault}
+use Rattle.reply.specs.Room.{holding}
+use Rattle.reply.specs.Settles.{Roots, Accepted, Outcome, accepted, refused, exhausted, Settles}
+
+module _ (g : Places) where
+  module _ (w : Roots) (k : ℕ) where
+    accepted-unique : {p q : List ℕ} {r i s t : ℕ} → Accepted g w k p r s → Accepted g w k q i t → accepted p r s ≡ accepted q i t
+    accepted-unique {p} {q} {r} {i} {s} {t} a b =
+        let e : p ≡ q = ⊎-elim (λ e. e)
+        (⊎-elim (λ f. absurd (b .first p (a .simple) f (r, a .qualifies))) (λ f. absurd (a .first q (b .simple) f (i, b .qualifies))))
+        (same-or-before p q) in
+        let a′ : Accepted g w k q r s = rw e at a in
+        let f : r ≡ i = le-antisymm (a′ .lowest i (b .qualifies)) (b .lowest r (a′ .qualifies)) in
+        let h : s ≡ t = rank-unique g q (a′ .rank) (b .rank) in
+        rw (e, f, h)
+
+    -- a budget that covers all paths is never exhausted
+    pub covers : {c : ℕ} → Count g c → c ≤ k → (s : ℕ) → ¬ Settles g w k (exhausted s)
+    covers n h s x = let (d, m, l) = x .more in omega (arith, count-unique g n m)
+
+    pub settles-unique : (o u : Outcome) → Settles g w k o → Settles g w k u → o ≡ u
+    settles-unique (accepted p r s) (accepted q i t) a b = accepted-unique a b
+    settles-unique (accepted p r s) (refused t) a b = absurd (b .none p (a .simple) (r, a .qualifies))
+    settles-unique (accepted p r s) (exhausted t) a b = absurd (b .none p s (a .simple) (a .rank) (a .covered) (r, a .qualifies))
+    settles-unique (refused s) (accepted q i t) a b = absurd (a .none q (b .simple) (i, b .qualifies))
+    settles-unique (refused s) (refused t) a b = ap refused (count-unique g (a .all) (b .all))
+    settles-unique (refused s) (exhausted t) a b = absurd (covers (a .all) (a .covered) t b)
+    settles-unique (exhausted s) (accepted q i t) a b = absurd (a .none q t (b .simple) (b .rank) (b .covered) (i, b .qualifies))
+    settles-unique (exhausted s) (refused t) a b = absurd (covers (b .all) (b .covered) s a)
+    settles-unique (exhausted s) (exhausted t) a b = ap exhausted (a .spent ∙ sym (b .spent))
+
+-- ---- what is answered
+
+-- two answers to one question: their replies, paths and rooms are equal
+pub record Same (a b : Answer) (after later : List ℕ) : Type 0 where
+  pub answer : a ≡ b
+  pub room : after ≡ later
+
+answer-one : (a b : Answer) → a .reply ≡ b .reply → a .path ≡ b .path → a ≡ b
+answer-one a b e f = ap₂ (λ (r : Reply) (p : Path). record { reply = r; path = p }) e f
+
+module _ {g : Places} {w : Roots} {k : ℕ} {a b : Answer} where
+  told-unique : {o u : Outcome} → Tells g w k a o → Tells g w k b u → (o ≡ u) × (a ≡ b)
+  told-unique {o} {u} x y =
+      let e : o ≡ u = settles-unique g w k o u (x .settled) (y .settled) in
+      (e, answer-one a b (x .says ∙ ap saying e ∙ sym (y .says)) (x .shows ∙ ap (λ v. pathShown (shown v)) e ∙ sym (y .shows)))
+
+  pub paused-unique : {before after later : List ℕ} → Paused g w k before after a → Paused g w k before later b → Same a b after later
+  paused-unique {before} x y =
+      let (e, f) = told-unique (x .tells) (y .tells) in
+      let v : x .holds .waiting ≡ y .holds .waiting = after-unique g (rw e at (x .holds .order)) (y .holds .order) in
+      record { answer = f; room = x .holds .room ∙ ap (λ ws. holding (g .size) ws before) v ∙ sym (y .holds .room) }
+
+  pub searched-unique : {before after later : List ℕ} → Searched g w k before after a → Searched g w k before later b → Same a b after later
+  searched-unique x y =
+      let (e, f) = told-unique (x .tells) (y .tells) in
+      record { answer = f; room = x .clear ∙ sym (y .clear) }
+
+module _ {before after later : List ℕ} {a b : Answer} where
+  pub stops-unique : {e : ℕ} → Stops e before after a → Stops e before later b → Same a b after later
+  stops-unique x y =
+      record { answer = answer-one a b (x .says ∙ sym (y .says)) (x .shows ∙ sym (y .shows)); room = x .kept ∙ sym (y .kept) }
+
+  pub answered-unique : {P Q : Type 0} → (P → Q → Same a b after later)
+      → (e : ℕ) → Answered P e before after a → Answered Q e before later b → Same a b after later
+  answered-unique same zero x y = same (x .runs refl) (y .runs refl)
+  answered-unique same (suc e) x y = stops-unique (x .stops (suc-le-suc zero-le)) (y .stops (suc-le-suc zero-le))
+
+-- ---- a search and a paused run
+
+module _ (g : Places) (w : Roots) (budget : ℕ) (before : List ℕ) {after later : List ℕ} {a b : Answer} where
+  -- what a paused run must answer and leave is one answer and one room
+  pub paused-one : Answered (Paused g w budget before after a) (fault (g .size) (length before)) before after a
+      → Answered (Paused g w budget before later b) (fault (g .size) (length before)) before later b
+      → Same a b after later
+  paused-one x y = answered-unique paused-unique (fault (g .size) (length before)) x y
+
+  -- and so for a search
+  pub search-one : Answered (Searched g w budget before after a) (fault (g .size) (length before)) before after a
+      → Answered (Searched g w budget before later b) (fault (g .size) (length before)) before later b
+      → Same a b after later
+  search-one x y = answered-unique searched-unique (fault (g .size) (length before)) x y

@@ -1,0 +1,4 @@
+pub mod Settles
+pub mod Slots
+pub mod Room
+pub mod Answer
