@@ -39,22 +39,14 @@ fn top_judged(path: &[u8], judged: Judged) -> u8 {
     if n == 0 {
         return Row::PLACES;
     }
-    if !is_place(path[0]) {
-        return Row::PLACES;
-    }
     let last = path[n - 1];
     let issued = judged.issuing.roots;
-    let seats = seats_of(judged);
+    let seats = seats_of(judged, Bundle::MOST as u8);
     let rows = seats.rows;
     lowest(shared(
         over(standing_before(path, &rows), last),
         issuers(&issued, last),
     ))
-}
-
-// The leaf's byte is asked so since any place may be begun with; those after it are by the seats.
-fn is_place(byte: u8) -> bool {
-    (byte as usize) < Bundle::MOST
 }
 
 // The roots that issued a place; none where the byte is no place.

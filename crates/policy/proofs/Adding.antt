@@ -8,9 +8,9 @@ use mathlib.Core.Path.{_≡_, refl}
 use borrow.Author.Tests.{lt-ltb, le-ltb}
 use lib.ListN.{getD}
 use Rattle.places.specs.Limits.{bundleMost}
-use Rattle.rows.specs.Rows.{has, left, common, below}
+use Rattle.rows.specs.Rows.{has, common}
 use Rattle.order.proofs.Simple.{last-snoc}
-use Rattle.policy.specs.Standing.{placesOut, rootsOut, begun, over, added, addedAll, standing, above, rootsOver}
+use Rattle.policy.specs.Standing.{placesAt, rootsAt, leavesAt, begun, over, added, addedAll, standing, above, rootsOver}
 use Rattle.policy.specs.declared.standing.Standing.{Standing}
 
 module _ (s : Standing) (i : ℕ) where
@@ -23,20 +23,19 @@ module _ (s : Standing) (i : ℕ) where
   over-lacks e = rw e
 
 module _ (seats : List ℕ) where
-  pub begun-is : {places roots : ℕ} → places ≡ below 64 → roots ≡ left (below 64) (rootsOut seats 0)
-      → record { places = places; roots = roots; below = 0 } ≡ begun seats
+  pub begun-is : record { places = leavesAt seats; roots = rootsAt seats 0; below = 0 } ≡ begun seats
   unfolding begun
-  begun-is p r = rw (p, r)
+  begun-is = refl
 
   module _ (s : Standing) (i : ℕ) where
     pub added-full : bundleMost - 1 ≤ s .below → record { places = 0; roots = 0; below = s .below } ≡ added seats s i
     unfolding added
     added-full h = rw (le-ltb (s .below) (bundleMost - 1) h)
 
-    pub added-is : {places roots : ℕ} → s .below < bundleMost - 1 → places ≡ left (s .places) (placesOut seats (s .below))
-        → roots ≡ left (over s i) (rootsOut seats (s .below + 1)) → record { places = places; roots = roots; below = s .below + 1 } ≡ added seats s i
+    pub added-is : {roots : ℕ} → s .below < bundleMost - 1 → roots ≡ common (over s i) (rootsAt seats (s .below + 1))
+        → record { places = placesAt seats (s .below); roots = roots; below = s .below + 1 } ≡ added seats s i
     unfolding added
-    added-is h p r = rw (lt-ltb (s .below) (bundleMost - 1) h, p, r)
+    added-is h r = rw (lt-ltb (s .below) (bundleMost - 1) h, r)
 
   added-last : (s : Standing) (l : List ℕ) (i : ℕ) → addedAll seats s (l ++ i ∷ []) ≡ added seats (addedAll seats s l) i
   unfolding addedAll

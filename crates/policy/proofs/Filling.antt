@@ -1,52 +1,47 @@
--- The loop that fills the seats, of the places or of the roots alike. It takes the lowest place of what is left each turn: it begins with those that
--- may stand nowhere (`marking-starts`), a turn marks the place (`marking-marks`) or passes over a limit that no path reaches
--- (`marking-passes`), and at the end the rows are filled (`marking-ends`).
--- Both parts: each of a row has a limit (`limited`), and the two parts filled are the seats (`seats-filled`); `second-lent`,
+-- Filling the seats: each is put in the row of its limit (`entering-starts`, `entering-turn`, `entering-ends`), then each row is handed on
+-- to the one before it (`handing-starts`, `handing-turn`, `handing-ends`); and the seats of both parts (`limited`, `seats-filled`); `second-lent`,
 -- `second-back` for lending the second. Assumes nothing.
-use Prim.Native.Nat.{ℕ, zero, suc, _+_, _-_, _≤_, _<_}
-use mathlib.Core.Bool.{Bool, true, false, not, _&&_, _||_, and-true, and-false, and-not-self, or-false, false≢true}
-use mathlib.Core.List.{List, _++_, append-nil}
+use Prim.Native.Nat.{ℕ, _+_, _-_, _≤_, _<_}
+use mathlib.Core.Bool.{Bool, true, false, cond, not, _&&_, _||_, and-true, and-false, and-not-self, or-false, false≢true}
+use mathlib.Core.List.{List, [], _∷_, _++_}
 use mathlib.Core.Path.{_≡_, refl, sym, ap, _∙_}
 use native.Mathlib.Omega.{arith}
-use borrow.Author.Tests.{ltb-true, ltb-false, eqb-true, eqb-false, lt-ltb, le-ltb, ne-eqb}
-use lib.Dec.{eqb, ltb}
+use borrow.Author.Tests.{ltb-true, ltb-false, eqb-true, eqb-false, leb-true, leb-false, lt-ltb, le-ltb, le-leb, lt-leb, eq-eqb, ne-eqb}
+use lib.Dec.{eqb, leb, ltb}
 use lib.ListN.{length, getD, set, replicate, take, drop, length-set, List·getD-append}
 use lib.Seq.{getD-set-same, getD-set-other, getD-append-add, take-at, drop-at}
 use Rattle.places.specs.Limits.{rootsMost, bundleMost}
-use Rattle.rows.specs.Rows.{has, joined, left, common, lowest, below}
+use Rattle.rows.specs.Rows.{has, joined, left, common, either, lowest, below}
 use Rattle.rows.proofs.Listing.{getD-zeros}
-use Rattle.rows.proofs.Places.{has-none, has-joined, has-left, has-common, has-dropped, lowest-least}
+use Rattle.rows.proofs.Places.{has-none, has-joined, has-left, has-common, has-either, has-dropped, lowest-least}
 use Rattle.rows.proofs.Taking.{lowest-there}
 use Rattle.rows.proofs.Upper.{has-below}
-use Rattle.policy.specs.Filling.{Limited, Filled}
-use Rattle.policy.specs.Standing.{falls, Seated}
+use Rattle.policy.specs.Filling.{lesser, Limited, Entered, Filled}
+use Rattle.policy.specs.Judging.{stands}
+use Rattle.policy.specs.Standing.{Seated}
 use Rattle.policy.specs.declared.judged.Judged.{Judged}
 
--- ---- the limits are marked
+-- ---- each in the row of its limit
 
--- those that are not among the rest are marked, and in the first row those that may stand nowhere
-pub record Marking (sound : ℕ) (limits : List ℕ) (rest : ℕ) (rows : List ℕ) : Type 0 where
+-- those that are not among the rest are in their row
+pub record Entering (last sound : ℕ) (limits : List ℕ) (rest : ℕ) (rows : List ℕ) : Type 0 where
   pub size : length rows ≡ bundleMost
   pub kept : (j : ℕ) → has j rest ≡ true → has j sound ≡ true
-  pub nowhere : (j : ℕ) → has j (getD rows 0 0) ≡ falls sound limits 0 j
-  pub marks : (n j : ℕ) → n < bundleMost - 1 → has j (getD rows (suc n) 0) ≡ has j sound && not (has j rest) && eqb (getD limits j 0) n
+  pub put : (n j : ℕ) → n < bundleMost → has j (getD rows n 0) ≡ has j sound && not (has j rest) && eqb (lesser (getD limits j 0) last) n
 
-module _ (sound : ℕ) (limits : List ℕ) where
-  pub marking-starts : (rows : List ℕ) → rows ≡ replicate bundleMost 0 → Marking sound limits sound (set rows 0 (left (below 64) sound))
-  unfolding falls
-  marking-starts rows e =
+module _ (last sound : ℕ) (limits : List ℕ) where
+  pub entering-starts : (rows : List ℕ) → rows ≡ replicate bundleMost 0 → Entering last sound limits sound rows
+  entering-starts rows e =
       rw e
       (record {
         size = refl;
         kept = λ j h. h;
-        nowhere = λ j. has-left j (below 64) sound ∙ rw (has-below j 64 (omega arith));
-        marks = λ n j h. ap (has j) (getD-zeros (bundleMost - 1) n) ∙ has-none j ∙ rw and-not-self;
+        put = λ n j h. ap (has j) (getD-zeros bundleMost n) ∙ has-none j ∙ rw and-not-self;
       })
 
-  module _ (rest : ℕ) (rows : List ℕ) (m : Marking sound limits rest rows) where
-    pub marking-ends : Limited sound limits → length limits ≤ lowest rest → Filled sound limits rows
-    unfolding falls
-    marking-ends l h = record { size = m .size; out = out }
+  module _ (rest : ℕ) (rows : List ℕ) (m : Entering last sound limits rest rows) where
+    pub entering-ends : Limited sound limits → length limits ≤ lowest rest → Entered last sound limits rows
+    entering-ends l h = record { size = m .size; put = λ n i k. m .put n i k ∙ rw (none i, and-true) }
       where
         -- nothing is left: it would be among the places that have a limit, and below the lowest
         none : (j : ℕ) → has j rest ≡ false
@@ -57,18 +52,17 @@ module _ (sound : ℕ) (limits : List ℕ) where
             go true e true f = let k = ltb-true j (length limits) f in lowest-least rest .below j (omega arith) (omega arith)
             go true e false f = absurd (false≢true (sym (l .inside j (ltb-false j (length limits) f)) ∙ m .kept j e))
 
-        out : (n i : ℕ) → n < bundleMost → has i (getD rows n 0) ≡ falls sound limits n i
-        out zero i k = m .nowhere i
-        out (suc n) i k = m .marks n i (omega arith) ∙ rw (none i, and-true)
-
     module _ (i : ℕ) (first : i ≡ lowest rest) (place : i < 64) where
-      -- those that are marked, and i where it is to be
-      marked-more : (n j : ℕ) → has j sound && not (has j rest) && eqb (getD limits j 0) n || (eqb j i && eqb (getD limits i 0) n)
-          ≡ has j sound && not (has j (left rest (joined 0 i))) && eqb (getD limits j 0) n
-      marked-more n j = rw (has-dropped rest i place j) (go (eqb j i) refl)
+      abbrev row : ℕ
+      row = lesser (getD limits i 0) last
+
+      -- those that are in their row, and i where it is to be
+      entered-more : (n j : ℕ) → has j sound && not (has j rest) && eqb (lesser (getD limits j 0) last) n || (eqb j i && eqb row n)
+          ≡ has j sound && not (has j (left rest (joined 0 i))) && eqb (lesser (getD limits j 0) last) n
+      entered-more n j = rw (has-dropped rest i place j) (go (eqb j i) refl)
         where
-          go : (q : Bool) → eqb j i ≡ q → has j sound && not (has j rest) && eqb (getD limits j 0) n || (q && eqb (getD limits i 0) n)
-              ≡ has j sound && not (has j rest && not q) && eqb (getD limits j 0) n
+          go : (q : Bool) → eqb j i ≡ q → has j sound && not (has j rest) && eqb (lesser (getD limits j 0) last) n || (q && eqb row n)
+              ≡ has j sound && not (has j rest && not q) && eqb (lesser (getD limits j 0) last) n
           go true e = let k : j ≡ i = eqb-true j i e in let left-there = lowest-there rest i first place in rw (k, left-there, m .kept i left-there)
           go false e = rw (and-true, or-false)
 
@@ -79,38 +73,155 @@ module _ (sound : ℕ) (limits : List ℕ) where
           go true b e = refl
           go false b e = e
 
-      pub marking-passes : bundleMost - 1 ≤ getD limits i 0 → Marking sound limits (left rest (joined 0 i)) rows
-      marking-passes h =
-          record {
-            size = m .size;
-            kept = still-kept;
-            nowhere = m .nowhere;
-            marks = λ n j k.
-                let far : eqb (getD limits i 0) n ≡ false = ne-eqb (getD limits i 0) n (λ e. omega arith) in
-                m .marks n j k ∙ (rw (far, and-false, or-false) at (marked-more n j));
-          }
-
-      pub marking-marks : getD limits i 0 < bundleMost - 1
-          → Marking sound limits (left rest (joined 0 i)) (set rows (getD limits i 0 + 1) (joined (getD rows (getD limits i 0 + 1) 0) i))
-      marking-marks h =
+      pub entering-turn : row < bundleMost → Entering last sound limits (left rest (joined 0 i)) (set rows row (joined (getD rows row 0) i))
+      entering-turn h =
           record {
             size = simp length-set (m .size);
             kept = still-kept;
-            nowhere = λ j. ap (has j) (getD-set-other rows (limit + 1) 0 (joined (getD rows (limit + 1) 0) i) 0 (λ e. omega arith)) ∙ m .nowhere j;
-            marks = λ n j k. put n j (eqb (getD limits i 0) n) refl ∙ ap (λ (b : Bool). b || (eqb j i && eqb (getD limits i 0) n)) (m .marks n j k) ∙ marked-more n j;
+            put = λ n j k. there n j (eqb row n) refl ∙ ap (λ (b : Bool). b || (eqb j i && eqb row n)) (m .put n j k) ∙ entered-more n j;
           }
         where
-          limit : ℕ
-          limit = getD limits i 0
+          there : (n j : ℕ) (b : Bool) → eqb row n ≡ b
+              → has j (getD (set rows row (joined (getD rows row 0) i)) n 0) ≡ has j (getD rows n 0) || (eqb j i && b)
+          there n j true e =
+              let k : n ≡ row = sym (eqb-true row n e) in
+              rw (k, getD-set-same rows row (joined (getD rows row 0) i) 0 (omega (arith, m .size)), has-joined, lt-ltb i 64 place, and-true)
+          there n j false e =
+              rw (getD-set-other rows row n (joined (getD rows row 0) i) 0 (λ q. eqb-false row n e (sym q)), and-false, or-false)
 
-          put : (n j : ℕ) (b : Bool) → eqb limit n ≡ b
-              → has j (getD (set rows (limit + 1) (joined (getD rows (limit + 1) 0) i)) (suc n) 0) ≡ has j (getD rows (suc n) 0) || (eqb j i && b)
-          put n j true e =
-              let k : suc n ≡ limit + 1 = omega (arith, eqb-true limit n e) in
-              rw (k, getD-set-same rows (limit + 1) (joined (getD rows (limit + 1) 0) i) 0 (omega (arith, m .size)), has-joined, lt-ltb i 64 place, and-true)
-          put n j false e =
-              let k : ¬ (limit ≡ n) = eqb-false limit n e in
-              rw (getD-set-other rows (limit + 1) (suc n) (joined (getD rows (limit + 1) 0) i) 0 (λ q. k (omega arith)), and-false, or-false)
+-- ---- each in the rows before it too
+
+pub lesser-left : (a b : ℕ) → a < b → a ≡ lesser a b
+unfolding lesser
+lesser-left a b h = rw (lt-ltb a b h)
+
+pub lesser-right : (a b : ℕ) → b ≤ a → b ≡ lesser a b
+unfolding lesser
+lesser-right a b h = rw (le-ltb a b h)
+
+-- the lesser of two, by its tests
+lesser-up : (n a b : ℕ) → leb n (lesser a b) ≡ leb n b && leb n a
+lesser-up n a b = go (ltb a b) refl
+  where
+    go : (t : Bool) → ltb a b ≡ t → leb n (lesser a b) ≡ leb n b && leb n a
+    go true e = let h = ltb-true a b e in rw (← lesser-left a b h) (less (leb n a) refl h)
+      where
+        less : (t : Bool) → leb n a ≡ t → a < b → t ≡ leb n b && t
+        less true f h = let k = leb-true n a f in rw (le-leb n b (omega arith))
+        less false f h = sym (and-false (leb n b))
+    go false e = let h = ltb-false a b e in rw (← lesser-right a b h) (more (leb n b) refl h)
+      where
+        more : (t : Bool) → leb n b ≡ t → b ≤ a → t ≡ t && leb n a
+        more true f h = let k = leb-true n b f in sym (le-leb n a (omega arith))
+        more false f h = refl
+
+lesser-most : (a b : ℕ) → lesser a b ≤ b
+lesser-most a b = leb-true (lesser a b) b (go (leb (lesser a b) b) (leb (lesser a b) a) (sym (lesser-up (lesser a b) a b) ∙ le-leb (lesser a b) (lesser a b) (omega arith)))
+  where
+    go : (t u : Bool) → t && u ≡ true → t ≡ true
+    go true u e = refl
+    go false u e = e
+
+pub lesser-below : (a b most : ℕ) → b < most → lesser a b < most
+lesser-below a b most h = let k = lesser-most a b in omega arith
+
+-- one whose row is m is in row n, where the rows from k on were handed what is past them
+unfoldable pub inRow : ℕ → ℕ → ℕ → Bool
+inRow k n m = cond (leb k n) (leb n m) (eqb m n)
+
+in-last : (k n m : ℕ) → m ≤ k → eqb m n ≡ inRow k n m
+unfolding inRow
+in-last k n m h = go (leb k n) refl
+  where
+    go : (t : Bool) → leb k n ≡ t → eqb m n ≡ cond t (leb n m) (eqb m n)
+    go false e = refl
+    go true e = let l = leb-true k n e in same (leb n m) refl l
+      where
+        same : (t : Bool) → leb n m ≡ t → k ≤ n → eqb m n ≡ t
+        same true f l = let q = leb-true n m f in eq-eqb m n (omega arith)
+        same false f l = let q = leb-false n m f in ne-eqb m n (λ e. omega arith)
+
+in-next : (k m : ℕ) → 0 < k → inRow k (k - 1) m || inRow k k m ≡ inRow (k - 1) (k - 1) m
+unfolding inRow
+in-next k m h = rw (lt-leb k (k - 1) (omega arith), le-leb k k (omega arith), le-leb (k - 1) (k - 1) (omega arith)) (go (eqb m (k - 1)) refl (leb k m) refl)
+  where
+    go : (t : Bool) → eqb m (k - 1) ≡ t → (u : Bool) → leb k m ≡ u → t || u ≡ leb (k - 1) m
+    go true e u f = let q = eqb-true m (k - 1) e in sym (le-leb (k - 1) m (omega arith))
+    go false e true f = let q = leb-true k m f in sym (le-leb (k - 1) m (omega arith))
+    go false e false f =
+        let q = leb-false k m f in
+        let l : ¬ (m ≡ k - 1) = eqb-false m (k - 1) e in
+        sym (lt-leb (k - 1) m (omega arith))
+
+in-other : (k n m : ℕ) → 0 < k → ¬ (n ≡ k - 1) → inRow k n m ≡ inRow (k - 1) n m
+unfolding inRow
+in-other k n m h o = go (leb k n) refl
+  where
+    go : (t : Bool) → leb k n ≡ t → cond t (leb n m) (eqb m n) ≡ cond (leb (k - 1) n) (leb n m) (eqb m n)
+    go true e = let q = leb-true k n e in rw (le-leb (k - 1) n (omega arith))
+    go false e = let q = leb-false k n e in rw (lt-leb (k - 1) n (omega arith))
+
+-- the rows from k on were handed what is past them, those before k not yet
+pub record Handing (last : ℕ) (before : List ℕ) (k : ℕ) (rows : List ℕ) : Type 0 where
+  pub size : length rows ≡ bundleMost
+  pub within : k < bundleMost
+  pub handed : (sound : ℕ) (limits : List ℕ) → Entered last sound limits before
+      → (n i : ℕ) → n < bundleMost → has i (getD rows n 0) ≡ has i sound && inRow k n (lesser (getD limits i 0) last)
+
+module _ (last : ℕ) (before : List ℕ) where
+  pub handing-starts : length before ≡ bundleMost → last < bundleMost → Handing last before last before
+  handing-starts size h =
+      record {
+        size = size;
+        within = h;
+        handed = λ sound limits e n i k. e .put n i k ∙ ap (λ (b : Bool). has i sound && b) (in-last last n _ (lesser-most (getD limits i 0) last));
+      }
+
+  module _ (k : ℕ) (rows : List ℕ) (m : Handing last before k rows) where
+    pub handing-turn : 0 < k → Handing last before (k - 1) (set rows (k - 1) (either (getD rows (k - 1) 0) (getD rows k 0)))
+    handing-turn h = record { size = simp length-set (m .size); within = let w = m .within in omega arith; handed = handed }
+      where
+        handed : (sound : ℕ) (limits : List ℕ) → Entered last sound limits before → (n i : ℕ) → n < bundleMost
+            → has i (getD (set rows (k - 1) (either (getD rows (k - 1) 0) (getD rows k 0))) n 0) ≡ has i sound && inRow (k - 1) n (lesser (getD limits i 0) last)
+        handed sound limits e n i l = go (eqb n (k - 1)) refl
+          where
+            row : ℕ
+            row = lesser (getD limits i 0) last
+
+            go : (b : Bool) → eqb n (k - 1) ≡ b → has i (getD (set rows (k - 1) (either (getD rows (k - 1) 0) (getD rows k 0))) n 0) ≡ has i sound && inRow (k - 1) n row
+            go true f =
+                let w = m .within in
+                rw (
+                  eqb-true n (k - 1) f,
+                  getD-set-same rows (k - 1) (either (getD rows (k - 1) 0) (getD rows k 0)) 0 (omega (arith, m .size)),
+                  has-either,
+                  m .handed sound limits e (k - 1) i (omega arith),
+                  m .handed sound limits e k i w,
+                  ← in-next k row h,
+                )
+                (both (has i sound) (inRow k (k - 1) row) (inRow k k row))
+              where
+                both : (s a b : Bool) → s && a || (s && b) ≡ s && (a || b)
+                both true a b = refl
+                both false a b = refl
+            go false f =
+                let o : ¬ (n ≡ k - 1) = eqb-false n (k - 1) f in
+                rw (getD-set-other rows (k - 1) n (either (getD rows (k - 1) 0) (getD rows k 0)) 0 o, m .handed sound limits e n i l, in-other k n row h o)
+
+    pub handing-ends : k ≤ 0 → (sound : ℕ) (limits : List ℕ) → Entered last sound limits before → Filled last sound limits rows
+    unfolding stands inRow
+    handing-ends h sound limits e =
+        let z : k ≡ 0 = omega arith in
+        record {
+          size = m .size;
+          may = λ n i l. m .handed sound limits e n i l
+              ∙ rw (z, le-leb 0 n (omega arith), lesser-up n (getD limits i 0) last) (turned (has i sound) (leb n last) (leb n (getD limits i 0)));
+        }
+      where
+        turned : (s a b : Bool) → s && (a && b) ≡ a && (s && b)
+        turned true a b = refl
+        turned false true b = refl
+        turned false false b = refl
 
 -- ---- both parts
 
@@ -122,21 +233,36 @@ limited sound n limits e h =
       inside = λ i k. has-common i sound (below n) ∙ rw (has-below i n h, le-ltb i n (omega arith), and-false);
     }
 
-pub seats-filled : (j : Judged) (places roots : List ℕ) → Filled (common (j .between .sound) (below bundleMost)) (j .between .limits) places
-    → Filled (common (j .above .sound) (below rootsMost)) (j .above .limits) roots → Seated j (places ++ roots)
-seats-filled j places roots p q =
-    record {
-      places = λ n i h. ap (has i) (List·getD-append places roots 0 n (omega (arith, p .size))) ∙ p .out n i h;
-      roots = λ n i h. ap (has i) (after n) ∙ q .out n i h;
-    }
-  where
-    after : (n : ℕ) → getD (places ++ roots) (bundleMost + n) 0 ≡ getD roots n 0
-    after n = ap (λ (k : ℕ). getD (places ++ roots) (k + n) 0) (sym (p .size)) ∙ getD-append-add places roots n 0
+-- up to the lesser of a number and the last row is up to that number, for a row that there is
+up-to : (after n : ℕ) → n < bundleMost → leb n (lesser after (bundleMost - 1)) ≡ leb n after
+up-to after n h = lesser-up n after (bundleMost - 1) ∙ rw (le-leb n (bundleMost - 1) (omega arith))
+
+module _ (j : Judged) (after : ℕ) (places roots : List ℕ) where
+  abbrev last : ℕ
+  last = lesser after (bundleMost - 1)
+
+  pub seats-filled : Filled last (common (j .between .sound) (below bundleMost)) (j .between .limits) places
+      → Filled last (common (j .above .sound) (below rootsMost)) (j .above .limits) roots → Seated j after (places ++ (roots ++ j .leaves ∷ []))
+  seats-filled p q =
+      record {
+        places = λ n i h. ap (has i) (List·getD-append places (roots ++ j .leaves ∷ []) 0 n (omega (arith, p .size))) ∙ p .may n i h ∙ rw (up-to after n h);
+        roots = λ n i h. ap (has i) (second n ∙ List·getD-append roots (j .leaves ∷ []) 0 n (omega (arith, q .size))) ∙ q .may n i h ∙ rw (up-to after n h);
+        leaves = second bundleMost ∙ third;
+      }
+    where
+      second : (n : ℕ) → getD (places ++ (roots ++ j .leaves ∷ [])) (bundleMost + n) 0 ≡ getD (roots ++ j .leaves ∷ []) n 0
+      second n = ap (λ (k : ℕ). getD (places ++ (roots ++ j .leaves ∷ [])) (k + n) 0) (sym (p .size)) ∙ getD-append-add places (roots ++ j .leaves ∷ []) n 0
+
+      third : getD (roots ++ j .leaves ∷ []) bundleMost 0 ≡ j .leaves
+      third = ap (λ (k : ℕ). getD (roots ++ j .leaves ∷ []) (k + 0) 0) (sym (q .size)) ∙ getD-append-add roots (j .leaves ∷ []) 0 0
 
 -- what the second part is lent, and what it leaves of the whole
-module _ (places : List ℕ) (size : length places ≡ bundleMost) where
-  pub second-lent : take bundleMost (drop bundleMost (places ++ replicate bundleMost 0)) ≡ replicate bundleMost 0
-  second-lent = ap (take bundleMost) (drop-at places (replicate bundleMost 0) bundleMost size)
+module _ (places : List ℕ) (size : length places ≡ bundleMost) (leaves : ℕ) where
+  abbrev rest : List ℕ
+  rest = replicate bundleMost 0 ++ leaves ∷ []
 
-  pub second-back : (roots : List ℕ) → take bundleMost (places ++ replicate bundleMost 0) ++ (roots ++ drop bundleMost (drop bundleMost (places ++ replicate bundleMost 0))) ≡ places ++ roots
-  second-back roots = rw (take-at places (replicate bundleMost 0) bundleMost size, drop-at places (replicate bundleMost 0) bundleMost size, append-nil)
+  pub second-lent : take bundleMost (drop bundleMost (places ++ rest)) ≡ replicate bundleMost 0
+  second-lent = ap (take bundleMost) (drop-at places rest bundleMost size)
+
+  pub second-back : (roots : List ℕ) → take bundleMost (places ++ rest) ++ (roots ++ drop bundleMost (drop bundleMost (places ++ rest))) ≡ places ++ (roots ++ leaves ∷ [])
+  second-back roots = rw (take-at places rest bundleMost size, drop-at places rest bundleMost size)

@@ -1,9 +1,9 @@
 -- What the tests of one certificate come to: what is asked of it between leaf and root, as the root and as the leaf, by the first test
--- that fails, and the roots above by the leaf; and the facts of a card by their parts (`judged-is`). Assumes nothing.
+-- that fails; and the facts of a card by their parts (`judged-is`). Assumes nothing.
 use Prim.Native.Nat.{ℕ}
-use mathlib.Core.Bool.{Bool, true, false, _&&_, and-true, and-false}
+use mathlib.Core.Bool.{true, false, cond, _&&_, and-true, and-false}
 use mathlib.Core.List.{List}
-use mathlib.Core.Path.{_≡_, sym}
+use mathlib.Core.Path.{_≡_}
 use Rattle.fields.specs.Fields.{bytesOf}
 use Rattle.record.specs.Certificate.{Certificate, certificateOf}
 use Rattle.record.specs.Parts.{headOf, extensionsOf}
@@ -12,11 +12,12 @@ use Rattle.extensions.specs.declared.Extensions.{Extensions}
 use Rattle.record.specs.declared.Record.{Record}
 use Rattle.certificates.specs.Certificates.{recordOf}
 use Rattle.card.specs.declared.Card.{Card}
+use Rattle.rows.specs.Rows.{joined}
 use Rattle.issuing.specs.Records.{bundleRows, rootRows, issuersOf}
 use Rattle.rules.specs.Rules.{inDate, wellFormed, handled, authority}
 use Rattle.rules.specs.Records.{forServersAt, forHostAt}
 use Rattle.rules.specs.declared.rules.Time.{Time}
-use Rattle.policy.specs.Sound.{betweenSound, topSound, leafSoundAt, soundPlaces, placeLimits, soundRoots, rootLimits, rootsAbove, judgedOf}
+use Rattle.policy.specs.Sound.{betweenSound, topSound, leafSoundAt, soundPlaces, placeLimits, soundRoots, rootLimits, soundLeaves, judgedOf}
 use Rattle.policy.specs.declared.judged.Judged.{Judged}
 
 -- ---- by where it stands
@@ -72,43 +73,21 @@ module _ (s : List ℕ) (time : Time) (host : List ℕ) (r : Record) where
         unfolding leafSoundAt
         leaf-asked head x h q = rw (dated, formed, told, q, h)
 
--- ---- the roots above
-
--- by the answer on a host and a record that are the task's host and the record at place 0
-module _
-    (s : List ℕ)
-    (time : Time)
-    (c : Card)
-    (answer : Bool)
-    (host : List ℕ)
-    (leaf : Record)
-    (told : answer ≡ leafSoundAt s time host leaf)
-    (asked : host ≡ bytesOf (c .task .host .name) s)
-    (first : leaf ≡ recordOf (c .bundle .count) (c .bundle .records) 0)
-  where
-    leaf-told : leafSoundAt s time (bytesOf (c .task .host .name) s) (recordOf (c .bundle .count) (c .bundle .records) 0) ≡ answer
-    leaf-told = rw (← asked, ← first) (sym told)
-
-    pub above-sound : (row : ℕ) → answer ≡ true → rootsAbove s time row c ≡ soundRoots s time row (c .roots)
-    unfolding rootsAbove
-    above-sound row e = rw (leaf-told, e)
-
-    pub above-unsound : (row : ℕ) → answer ≡ false → rootsAbove s time row c ≡ 0
-    unfolding rootsAbove
-    above-unsound row e = rw (leaf-told, e)
-
 -- ---- the facts
 
-pub judged-is : (s : List ℕ) (time : Time) (c : Card) {bundle roots limits tops : List ℕ} {asked sound above : ℕ}
+pub judged-is : (s : List ℕ) (time : Time) (c : Card) {bundle roots limits tops : List ℕ} {asked sound above leaves : ℕ} {host : List ℕ} {leaf : Record}
     → bundle ≡ bundleRows s (c .bundle) (c .verdicts) → roots ≡ rootRows s (c .roots) (c .bundle) (c .verdicts)
     → sound ≡ soundPlaces s time (c .bundle) → limits ≡ placeLimits s (c .bundle)
-    → asked ≡ issuersOf roots → above ≡ rootsAbove s time asked c → tops ≡ rootLimits s asked (c .roots)
+    → asked ≡ issuersOf roots → above ≡ soundRoots s time asked (c .roots) → tops ≡ rootLimits s asked (c .roots)
+    → host ≡ bytesOf (c .task .host .name) s → leaf ≡ recordOf (c .bundle .count) (c .bundle .records) 0
+    → leaves ≡ cond (leafSoundAt s time host leaf) (joined 0 0) 0
     → _≡_ {A = Judged}
     (record {
       issuing = record { bundle = bundle; roots = roots };
       between = record { sound = sound; limits = limits };
       above = record { sound = above; limits = tops };
+      leaves = leaves;
     })
     (judgedOf s time c)
-unfolding judgedOf
-judged-is s time c b r p l a u t = rw (t, u, a, l, p, r, b)
+unfolding judgedOf soundLeaves
+judged-is s time c b r p l a u t h f q = rw (q, f, h, t, u, a, l, p, r, b)

@@ -1,11 +1,12 @@
--- What is judged of a card is what the content says, at any time: who issued whom in the bundle (`issuer-judged`); a root by which a path from the
--- leaf qualifies, as its certificates were judged, is one by which it qualifies (`root-judged`), and is there (`qualifies-there`). Assumes nothing.
-use Prim.Native.Nat.{ℕ, _<_, _≤_}
+-- What is judged of a card is what the content says, at any time: who issued whom in the bundle (`issuer-judged`); a root by which a list of places
+-- qualifies, as its certificates were judged, is one by which it qualifies, where it begins at place 0 (`root-judged`), and is there
+-- (`qualifies-there`). Assumes nothing.
+use Prim.Native.Nat.{ℕ, zero, suc, _<_, _≤_}
 use mathlib.Core.Path.{_≡_, refl, sym, ap, _∙_}
-use mathlib.Core.Bool.{Bool, true, false, _&&_, false≢true}
+use mathlib.Core.Bool.{Bool, true, false, _&&_, and-true, and-false, false≢true}
 use mathlib.Core.List.{List, [], _∷_, map, List·Memᴰ·head as here, List·Memᴰ·tail as there}
 use native.Mathlib.Omega.{arith}
-use lib.Dec.{ltb}
+use lib.Dec.{eqb, ltb, eqb·suc-zero}
 use lib.ListN.{length, length-map, getD}
 use borrow.Author.Tests.{lt-ltb, ltb-true}
 use Rattle.places.specs.Limits.{bundleMost}
@@ -23,23 +24,13 @@ use Rattle.issuing.proofs.Issuers.{issuer-among}
 use Rattle.order.specs.Listing.{_among_}
 use Rattle.order.specs.Paths.{last}
 use Rattle.order.proofs.Simple.{last-among}
-use Rattle.rules.specs.Rules.{allows}
 use Rattle.rules.specs.declared.rules.Time.{Time}
 use Rattle.policy.specs.Policy.{policy, chainOf}
-use Rattle.policy.specs.Sound.{topSound, soundPlaces, placeLimits, rootLimits, rootsAbove, judgedOf}
+use Rattle.policy.specs.Sound.{soundPlaces, placeLimits, soundRoots, rootLimits, judgedOf}
 use Rattle.policy.specs.Judging.{stands, allStand, qualifiesBy}
 use Rattle.policy.specs.Qualifies.{qualifies}
-use Rattle.policy.proofs.Chains.{allBetween, leafSound, bySeat, policy-by-seat}
-use Rattle.policy.proofs.Seats.{all-stand-read, top-read}
-
--- ---- tests
-
--- leaf, between, root and its limit, asked in two orders
-two-orders : (l b t a : Bool) → b && (l && t && a) ≡ l && b && (t && a)
-two-orders true true t a = refl
-two-orders true false t a = refl
-two-orders false true t a = refl
-two-orders false false t a = refl
+use Rattle.policy.proofs.Chains.{leafSound, bySeat, policy-by-seat}
+use Rattle.policy.proofs.Seats.{all-stand-read, top-read, leaves-read}
 
 module _ (s : List ℕ) (c : Card) (e : ℕ) (t : CardRead s c e) (time : Time) where
   abbrev content : Content
@@ -75,29 +66,40 @@ module _ (s : List ℕ) (c : Card) (e : ℕ) (t : CardRead s c e) (time : Time) 
     between = allStand (soundPlaces s time (c .bundle)) (placeLimits s (c .bundle)) 0 l
 
     abbrev above : ℕ → Bool
-    above r = stands (rootsAbove s time (issuersOf rows) c) (rootLimits s (issuersOf rows) (c .roots)) (length l) r
+    above r = stands (soundRoots s time (issuersOf rows) (c .roots)) (rootLimits s (issuersOf rows) (c .roots)) (length l) r
 
-    -- a root by which the path is judged right is one by which it qualifies
-    pub root-judged : (r : ℕ) → qualifiesBy (judgedOf s time c) (0 ∷ l) r ≡ qualifies content time (0 ∷ l) r
+    -- from place 0 on
+    first-judged : (r : ℕ) → qualifiesBy (judgedOf s time c) (0 ∷ l) r ≡ qualifies content time (0 ∷ l) r
     unfolding contentOf bySeat qualifiesBy judgedOf
-    root-judged r =
+    first-judged r =
         let low : end < bundleMost = let a = inside end (last-among 0 l) in let b = count-few bundleMost s _ _ _ (t .bundle) in omega arith in
-        rw (lt-ltb end bundleMost low)
-        (ap (λ b. between && (b && above r)) (root-row-agrees s c e t r end) ∙ by-issuer (issued content (root r) end) refl)
+        rw (lt-ltb end bundleMost low, leaves-read s c e t time (inside 0 (here refl)) 0, and-true)
+        (ap (λ b. leaf && between && (b && above r)) (root-row-agrees s c e t r end) ∙ by-issuer (issued content (root r) end) refl)
       where
+        leaf : Bool
+        leaf = leafSound time (content .host) (place 0)
+
         by-issuer : (b : Bool) → issued content (root r) end ≡ b
-            → between && (b && above r) ≡ (b && policy time (content .host) (chainOf content 0 l r))
-        by-issuer false k = and-no between false refl
+            → leaf && between && (b && above r) ≡ (b && policy time (content .host) (chainOf content 0 l r))
+        by-issuer false k = and-no (leaf && between) false refl
         by-issuer true k =
             let asked = issuer-among rows end r (root-row-agrees s c e t r end ∙ k) in
             rw (
               all-stand-read s c e t time 0 l (λ i m. inside i (there m)) (omega arith),
-              top-read s c e t time (issuersOf rows) (length l) r (inside 0 (here refl)) (issuer-there r end k) asked few,
+              top-read s c e t time (issuersOf rows) (length l) r (issuer-there r end k) asked few,
               policy-by-seat time (content .host) (place 0) (map place l) (top r),
               length-map,
             )
-            (two-orders (leafSound time (content .host) (place 0)) (allBetween time 0 (map place l))
-            (topSound time (top r)) (allows (length l) (top r)))
+            refl
+
+  -- a root by which a list of places is judged right is one by which it qualifies, where it begins at place 0: no other was asked as the leaf
+  pub root-judged : (p : ℕ) (l : List ℕ) → ((i : ℕ) → i among (p ∷ l) → i < c .bundle .count) → length l ≤ 255
+      → (r : ℕ) → qualifiesBy (judgedOf s time c) (p ∷ l) r ≡ (eqb p 0 && qualifies content time (p ∷ l) r)
+  unfolding qualifiesBy judgedOf
+  root-judged zero l inside few r = first-judged l inside few r
+  root-judged (suc p) l inside few r =
+      let some : 0 < c .bundle .count = let a = inside (suc p) (here refl) in omega arith in
+      rw (leaves-read s c e t time some (suc p), eqb·suc-zero, and-false, and-false)
 
   -- a root by which a path qualifies is there
   pub qualifies-there : (p : List ℕ) (r : ℕ) → c .roots .count ≤ r → qualifies content time p r ≡ false

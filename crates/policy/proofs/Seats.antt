@@ -1,11 +1,11 @@
 -- What was judged once per certificate is what a chain's certificates are asked where they stand, on a card that was read:
--- those between (`all-stand-read`), the roots that were asked for (`top-read`), the leaf (`leaf-read`). Assumes nothing.
+-- those between (`all-stand-read`), the roots that were asked for (`top-read`), the leaf (`leaves-read`). Assumes nothing.
 use Prim.Native.Nat.{ℕ, _+_, _<_, _≤_}
 use mathlib.Core.Path.{_≡_, refl, sym, ap, ap₂, _∙_}
 use mathlib.Core.Bool.{Bool, true, cond, _&&_}
 use mathlib.Core.List.{List, [], _∷_, map, List·Memᴰ·head as here, List·Memᴰ·tail as there}
 use native.Mathlib.Omega.{arith}
-use lib.Dec.{ltb}
+use lib.Dec.{eqb, ltb}
 use lib.ListN.{length, getD}
 use borrow.Author.Tests.{lt-ltb}
 use Rattle.places.specs.Limits.{rootsMost, bundleMost}
@@ -17,8 +17,8 @@ use Rattle.card.specs.Content.{contentOf, root, bundled, certificateAt}
 use Rattle.card.specs.declared.Card.{Card}
 use Rattle.card.proofs.Sections.{CardRead}
 use Rattle.card.proofs.Standing.{bundled-stands}
-use Rattle.rows.specs.Rows.{has, rowOf, listing}
-use Rattle.rows.proofs.Places.{has-row}
+use Rattle.rows.specs.Rows.{has, joined, rowOf, listing}
+use Rattle.rows.proofs.Places.{has-none, has-joined, has-row}
 use Rattle.rows.proofs.Listing.{listing-there}
 use Rattle.issuing.proofs.Agrees.{size-is, root-is, bundled-is}
 use Rattle.order.specs.Listing.{_among_}
@@ -27,7 +27,7 @@ use Rattle.rules.specs.Limits.{limitOf}
 use Rattle.rules.specs.declared.rules.Time.{Time}
 use Rattle.rules.proofs.LeafRead.{for-servers-read, for-host-read}
 use Rattle.rules.proofs.Limits.{limit-allows}
-use Rattle.policy.specs.Sound.{betweenSound, topSound, leafSoundAt, placeOf, rootOf, soundPlaces, placeLimits, soundRoots, rootLimits, rootsAbove}
+use Rattle.policy.specs.Sound.{betweenSound, topSound, leafSoundAt, placeOf, rootOf, soundPlaces, placeLimits, soundRoots, rootLimits, soundLeaves}
 use Rattle.policy.specs.Judging.{stands, allStand}
 use Rattle.policy.proofs.Chains.{allBetween, leafSound}
 use Rattle.policy.proofs.Qualifying.{has-where}
@@ -90,6 +90,11 @@ module _ (s : List ℕ) (c : Card) (e : ℕ) (t : CardRead s c e) (time : Time) 
   unfolding rootLimits
   top-limits-read asked r h a = in-list rootsMost _ roots-most r h (λ i. cond (has i asked) (limitOf (rootOf s (c .roots) i)) 0) ∙ rw (a, root-is s c e t r h)
 
+  pub top-read : (asked k r : ℕ) → r < c .roots .count → has r asked ≡ true → k ≤ 255
+      → stands (soundRoots s time asked (c .roots)) (rootLimits s asked (c .roots)) k r ≡ (topSound time (top r) && allows k (top r))
+  unfolding stands
+  top-read asked k r h a f = rw (tops-read asked r h a, top-limits-read asked r h a, limit-allows k (top r) f)
+
   -- ---- the leaf
 
   leaf-read : 0 < c .bundle .count → leafSoundAt s time (contentOf c s .host) (recordOf (c .bundle .count) (c .bundle .records) 0)
@@ -99,10 +104,9 @@ module _ (s : List ℕ) (c : Card) (e : ℕ) (t : CardRead s c e) (time : Time) 
       let r = bundled-stands s c e t 0 h in
       rw (for-servers-read s _ _ (r .read), for-host-read s _ _ (r .read) (contentOf c s .host), bundled-is s c e t 0 h)
 
-  -- a root may stand above exactly where the leaf is sound and it is
-  pub top-read : (asked k r : ℕ) → 0 < c .bundle .count → r < c .roots .count → has r asked ≡ true → k ≤ 255
-      → stands (rootsAbove s time asked c) (rootLimits s asked (c .roots)) k r
-      ≡ (leafSound time (contentOf c s .host) (place 0) && topSound time (top r) && allows k (top r))
-  unfolding stands rootsAbove contentOf
-  top-read asked k r z h a f =
-      rw (has-where (leafSoundAt s time (bytesOf (c .task .host .name) s) (recordOf (c .bundle .count) (c .bundle .records) 0)) r (soundRoots s time asked (c .roots)), leaf-read z, tops-read asked r h a, top-limits-read asked r h a, limit-allows k (top r) f)
+  -- as the leaf place 0 alone was asked
+  pub leaves-read : 0 < c .bundle .count → (i : ℕ) → has i (soundLeaves s time c) ≡ leafSound time (contentOf c s .host) (place 0) && eqb i 0
+  unfolding soundLeaves contentOf
+  leaves-read h i =
+      has-where (leafSoundAt s time (bytesOf (c .task .host .name) s) (recordOf (c .bundle .count) (c .bundle .records) 0)) i (joined 0 0)
+      ∙ rw (leaf-read h, has-joined i 0 0, has-none i)

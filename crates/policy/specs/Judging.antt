@@ -1,5 +1,5 @@
--- A path judged by the facts of its certificates: each place after the first may stand where it does, and a root that issued the last
--- may stand above. Assumes nothing.
+-- A path judged by the facts of its certificates: the first place is sound as the leaf, each one after it may stand where it does, and a
+-- root that issued the last may stand above. Assumes nothing.
 use Prim.Native.Nat.{ℕ, _+_}
 use mathlib.Core.Bool.{Bool, true, false, _&&_}
 use mathlib.Core.List.{List, [], _∷_}
@@ -19,10 +19,10 @@ unfoldable pub allStand : ℕ → List ℕ → ℕ → List ℕ → Bool
 allStand sound limits n [] = true
 allStand sound limits n (i ∷ l) = ltb i bundleMost && stands sound limits n i && allStand sound limits (n + 1) l
 
--- a path qualifies by root r, as its certificates were judged: each place after the first may stand where it does, r issued the last place
--- and may stand above
+-- a path, which is any list of places, qualifies by root r, as its certificates were judged: the first is sound as the leaf, each place
+-- after it may stand where it does, r issued the last place and may stand above
 unfoldable pub qualifiesBy : Judged → List ℕ → ℕ → Bool
 qualifiesBy j [] r = false
 qualifiesBy j (p ∷ l) r =
-    (ltb (last p l) bundleMost && allStand (j .between .sound) (j .between .limits) 0 l)
+    (ltb (last p l) bundleMost && has p (j .leaves) && allStand (j .between .sound) (j .between .limits) 0 l)
     && (has r (getD (j .issuing .roots) (last p l) 0) && stands (j .above .sound) (j .above .limits) (length l) r)

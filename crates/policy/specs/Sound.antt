@@ -13,7 +13,7 @@ use Rattle.certificates.specs.Certificates.{recordOf, sizeOf}
 use Rattle.certificates.specs.declared.roots.Roots.{Roots}
 use Rattle.certificates.specs.declared.bundle.Bundle.{Bundle}
 use Rattle.card.specs.declared.Card.{Card}
-use Rattle.rows.specs.Rows.{has, rowOf, listing}
+use Rattle.rows.specs.Rows.{has, joined, rowOf, listing}
 use Rattle.issuing.specs.Records.{bundleRows, rootRows, issuersOf}
 use Rattle.rules.specs.Rules.{inDate, wellFormed, handled, authority}
 use Rattle.rules.specs.Limits.{limitOf}
@@ -59,12 +59,10 @@ soundRoots s time asked r = rowOf (λ i. has i asked && topSound time (rootOf s 
 unfoldable pub rootLimits : List ℕ → ℕ → Roots → List ℕ
 rootLimits s asked r = listing rootsMost (sizeOf rootsMost (r .count)) (λ i. cond (has i asked) (limitOf (rootOf s r i)) 0)
 
--- the roots that may stand above: none where the leaf is not sound
-unfoldable pub rootsAbove : List ℕ → Time → ℕ → Card → ℕ
-rootsAbove s time asked c =
-    cond (leafSoundAt s time (bytesOf (c .task .host .name) s) (recordOf (c .bundle .count) (c .bundle .records) 0))
-    (soundRoots s time asked (c .roots))
-    0
+-- as the leaf place 0 alone is asked, since every path begins there
+unfoldable pub soundLeaves : List ℕ → Time → Card → ℕ
+soundLeaves s time c =
+    cond (leafSoundAt s time (bytesOf (c .task .host .name) s) (recordOf (c .bundle .count) (c .bundle .records) 0)) (joined 0 0) 0
 
 -- ---- the facts
 
@@ -78,7 +76,8 @@ judgedOf s time c =
     record {
       issuing = record { bundle = bundleRows s (c .bundle) (c .verdicts); roots = rootRows s (c .roots) (c .bundle) (c .verdicts) };
       between = record { sound = soundPlaces s time (c .bundle); limits = placeLimits s (c .bundle) };
-      above = record { sound = rootsAbove s time (rootIssuers s c) c; limits = rootLimits s (rootIssuers s c) (c .roots) };
+      above = record { sound = soundRoots s time (rootIssuers s c) (c .roots); limits = rootLimits s (rootIssuers s c) (c .roots) };
+      leaves = soundLeaves s time c;
     }
 
 -- what stands where no card was read
@@ -88,4 +87,5 @@ fresh-judged =
       issuing = record { bundle = replicate bundleMost 0; roots = replicate bundleMost 0 };
       between = record { sound = 0; limits = replicate bundleMost 0 };
       above = record { sound = 0; limits = replicate rootsMost 0 };
+      leaves = 0;
     }

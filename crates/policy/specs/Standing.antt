@@ -1,36 +1,37 @@
 -- How a path stands under the policy, by the seats: begun for the leaf, and one place added at a time. The roots that it gives are those by
 -- which the path qualifies (`roots-qualify` of proofs/Qualifying), so that a search needs to know no rule. Assumes nothing.
-use Prim.Native.Nat.{ℕ, zero, suc, _+_, _-_, _<_}
-use mathlib.Core.Bool.{Bool, cond, not, _&&_}
+use Prim.Native.Nat.{ℕ, _+_, _-_, _*_, _<_}
+use mathlib.Core.Bool.{cond, _&&_}
 use mathlib.Core.List.{List, [], _∷_}
 use mathlib.Core.Path.{_≡_}
-use lib.Dec.{eqb, ltb}
+use lib.Dec.{leb, ltb}
 use lib.ListN.{getD}
 use Rattle.places.specs.Limits.{rootsMost, bundleMost}
-use Rattle.rows.specs.Rows.{has, left, common, below}
+use Rattle.rows.specs.Rows.{has, common, below}
 use Rattle.order.specs.Paths.{last}
+use Rattle.policy.specs.Judging.{stands}
 use Rattle.policy.specs.declared.judged.Judged.{Judged}
 use Rattle.policy.specs.declared.standing.Standing.{Standing}
 
 -- ---- the seats: rows for each number of certificates between there and the leaf
 
--- one of a row falls away with n certificates between it and the leaf: it may not stand there, and with fewer it might
-unfoldable pub falls : ℕ → List ℕ → ℕ → ℕ → Bool
-falls sound limits zero i = ltb i 64 && not (has i sound)
-falls sound limits (suc n) i = has i sound && eqb (getD limits i 0) n
+-- the places of the bundle that may stand there
+abbrev pub placesAt : List ℕ → ℕ → ℕ
+placesAt seats n = getD seats n 0
 
--- the places of the bundle that fall away there
-abbrev pub placesOut : List ℕ → ℕ → ℕ
-placesOut seats n = getD seats n 0
+-- the roots that may
+abbrev pub rootsAt : List ℕ → ℕ → ℕ
+rootsAt seats n = getD seats (bundleMost + n) 0
 
--- the roots that do
-abbrev pub rootsOut : List ℕ → ℕ → ℕ
-rootsOut seats n = getD seats (bundleMost + n) 0
+-- the places that may be the leaf
+abbrev pub leavesAt : List ℕ → ℕ
+leavesAt seats = getD seats (2 * bundleMost) 0
 
--- the seats are those of what was judged
-pub record Seated (j : Judged) (seats : List ℕ) : Type 0 where
-  pub places : (n i : ℕ) → n < bundleMost → has i (placesOut seats n) ≡ falls (common (j .between .sound) (below bundleMost)) (j .between .limits) n i
-  pub roots : (n r : ℕ) → n < bundleMost → has r (rootsOut seats n) ≡ falls (common (j .above .sound) (below rootsMost)) (j .above .limits) n r
+-- the seats are those of what was judged, for paths of no more than so many places after the leaf
+pub record Seated (j : Judged) (after : ℕ) (seats : List ℕ) : Type 0 where
+  pub places : (n i : ℕ) → n < bundleMost → has i (placesAt seats n) ≡ leb n after && stands (common (j .between .sound) (below bundleMost)) (j .between .limits) n i
+  pub roots : (n r : ℕ) → n < bundleMost → has r (rootsAt seats n) ≡ leb n after && stands (common (j .above .sound) (below rootsMost)) (j .above .limits) n r
+  pub leaves : leavesAt seats ≡ j .leaves
 
 -- ---- how a path stands that is to go on: the places that may come next, the roots that may then stand above, and how many certificates
 -- are then between those and the leaf
@@ -39,9 +40,9 @@ pub record Seated (j : Judged) (seats : List ℕ) : Type 0 where
 abbrev pub fresh-standing : Standing
 fresh-standing = record { places = 0; roots = 0; below = 0 }
 
--- before the leaf, which any place may be
+-- before the leaf
 unfoldable pub begun : List ℕ → Standing
-begun seats = record { places = below 64; roots = left (below 64) (rootsOut seats 0); below = 0 }
+begun seats = record { places = leavesAt seats; roots = rootsAt seats 0; below = 0 }
 
 -- the roots that may stand above where it goes on by place i
 unfoldable pub over : Standing → ℕ → ℕ
@@ -51,7 +52,7 @@ over s i = cond (has i (s .places)) (s .roots) 0
 unfoldable pub added : List ℕ → Standing → ℕ → Standing
 added seats s i =
     cond (ltb (s .below) (bundleMost - 1))
-    (record { places = left (s .places) (placesOut seats (s .below)); roots = left (over s i) (rootsOut seats (s .below + 1)); below = s .below + 1 })
+    (record { places = placesAt seats (s .below); roots = common (over s i) (rootsAt seats (s .below + 1)); below = s .below + 1 })
     (record { places = 0; roots = 0; below = s .below })
 
 -- a path that stood so and goes on by these places

@@ -25,9 +25,10 @@ use rules::well_formed;
 ghost use mathlib.Core.List.{List};
 ghost use mathlib.Core.Path.{_≡_};
 ghost use Prim.Native.Nat.{ℕ};
-ghost use mathlib.Core.Bool.{_&&_};
+ghost use mathlib.Core.Bool.{cond, _&&_};
 ghost use Rattle.record.specs.Certificate.{certificateBy};
 ghost use Rattle.record.specs.declared.Record.{Record};
+ghost use Rattle.rows.specs.Rows.{joined};
 ghost use Rattle.rules.specs.Records.{forServersAt, forHostAt};
 ghost use Rattle.policy.specs.Sound.{leafSoundAt, betweenSound, topSound, soundPlaces, placeLimits, soundRoots, rootLimits, judgedOf, fresh-judged};
 
@@ -38,17 +39,18 @@ pub struct Between {
     pub limits: [u8; Bundle::MOST],
 }
 
-// The same of the roots that were asked for; none may stand above where the leaf is not sound.
+// The same of the roots that were asked for.
 pub struct Above {
     pub sound: u64,
     pub limits: [u8; Roots::MOST],
 }
 
-// All the facts of a card that a search asks.
+// All the facts of a card that a search asks; at last the places that are sound as the leaf.
 pub struct Judged {
     pub issuing: Issuing,
     pub between: Between,
     pub above: Above,
+    pub leaves: u64,
 }
 
 impl Judged {
@@ -69,6 +71,7 @@ impl Judged {
                 sound: 0,
                 limits: [0u8; Roots::MOST],
             },
+            leaves: 0,
         }
     }
 }
@@ -81,24 +84,28 @@ pub fn judge(file: &[u8], time: Time, card: Card) -> Judged
     let by_roots = issuing.roots;
     let between = places_between(file, time, card.bundle);
     let above = roots_above(file, time, issuers_of(by_roots), card.roots);
-    if leaf_sound(
+    let leaves = leaves_in(
         file,
         time,
         part(file, card.task.host.name),
         card.bundle.record(BundlePlace(0)),
-    ) {
-        return Judged {
-            issuing,
-            between,
-            above,
-        };
-    }
-    let limits = above.limits;
+    );
     Judged {
         issuing,
         between,
-        above: Above { sound: 0, limits },
+        above,
+        leaves,
     }
+}
+
+// The places that are sound as the leaf: place 0 alone is asked, since every path begins there.
+fn leaves_in(file: &[u8], time: Time, host: &[u8], leaf: Record) -> u64
+    ensures { λ r. ⌜ r ≡ cond (leafSoundAt (now (file .entry)) time (now (host .entry)) leaf) (joined 0 0) 0 ⌝ }
+{
+    if leaf_sound(file, time, host, leaf) {
+        return with(0, 0);
+    }
+    0
 }
 
 // All that is asked of the leaf.

@@ -1,64 +1,100 @@
-// Who may no longer stand where, by the path lengths: filled once, so that a place more costs one look.
+// Who may stand where, by the path lengths: filled once, so that a place more costs one look.
 use crate::Judged;
 use card::Bundle;
 use card::Roots;
-use rows::Row;
 use rows::below;
+use rows::either;
 use rows::lowest;
 use rows::shared;
 use rows::with;
 use rows::without;
+ghost use mathlib.Core.List.{List};
 ghost use mathlib.Core.Path.{_≡_};
-ghost use lib.ListN.{replicate};
+ghost use Prim.Native.Nat.{ℕ, _<_};
+ghost use lib.ListN.{length, replicate};
 ghost use Rattle.places.specs.Limits.{bundleMost};
-ghost use Rattle.policy.specs.Filling.{Limited, Filled};
+ghost use Rattle.policy.specs.Filling.{lesser, Limited, Entered, Filled};
 ghost use Rattle.policy.specs.Standing.{Seated};
 
-// Rows for each number of certificates between a seat and the leaf: the places of the bundle that fall away there, since they may not stand
-// there and with fewer they might, and after those the roots that do.
+// Rows for each number of certificates between a seat and the leaf: the places of the bundle that may stand there, after those the roots
+// that may, and at last the places that may be the leaf itself.
 pub struct Seats {
     pub rows: [u64; Seats::ROWS],
 }
 
 impl Seats {
-    pub const ROWS: usize = 2 * Bundle::MOST;
+    pub const LEAVES: usize = 2 * Bundle::MOST;
+
+    pub const ROWS: usize = Seats::LEAVES + 1;
 }
 
-// The seats of a card's certificates.
-pub fn seats_of(judged: Judged) -> Seats
-    ensures { λ r. ⌜ Seated judged (r .rows) ⌝ }
+// The seats of a card's certificates, in paths of no more than so many places after the leaf.
+pub fn seats_of(judged: Judged, after: u8) -> Seats
+    ensures { λ r. ⌜ Seated judged after (r .rows) ⌝ }
 {
+    let last = lesser(after as usize, Bundle::MOST - 1);
     let mut rows = [0u64; Seats::ROWS];
+    rows[Seats::LEAVES] = judged.leaves;
     let places = judged.between.limits;
     let roots = judged.above.limits;
     fill(
         &mut rows[0..Bundle::MOST],
+        last,
         shared(judged.between.sound, below(Bundle::MOST as u8)),
         &places,
     );
     fill(
-        &mut rows[Bundle::MOST..Seats::ROWS],
+        &mut rows[Bundle::MOST..Seats::LEAVES],
+        last,
         shared(judged.above.sound, below(Roots::MOST as u8)),
         &roots,
     );
     Seats { rows }
 }
 
-// Row 0 gets those that may stand nowhere, row n + 1 those whose limit is n.
-fn fill(rows: &mut [u64], sound: u64, limits: &[u8])
-    requires { ⌜ now rows ≡ replicate bundleMost 0 ⌝ }
+// Whoever may stand above so many certificates may stand above fewer: each is put in the last row where it may stand, and then handed on.
+fn fill(rows: &mut [u64], last: usize, sound: u64, limits: &[u8])
+    requires { ⌜ (now rows ≡ replicate bundleMost 0) × (last < bundleMost) ⌝ }
     requires { ⌜ Limited sound (now limits) ⌝ }
-    ensures { λ _. ⌜ Filled sound (now (limits .entry)) (now (rows .exit)) ⌝ }
+    ensures { λ _. ⌜ Filled last sound (now (limits .entry)) (now (rows .exit)) ⌝ }
 {
-    rows[0] = without(below(Row::PLACES), sound);
+    enter(rows, last, sound, limits);
+    hand_on(rows, last);
+}
+
+// Puts each in the row of its limit, or in the last row where its limit is past it.
+fn enter(rows: &mut [u64], last: usize, sound: u64, limits: &[u8])
+    requires { ⌜ (now rows ≡ replicate bundleMost 0) × (last < bundleMost) ⌝ }
+    requires { ⌜ Limited sound (now limits) ⌝ }
+    ensures { λ _. ⌜ Entered last sound (now (limits .entry)) (now (rows .exit)) ⌝ }
+{
     let mut rest = sound;
     let mut i = lowest(rest);
     while (i as usize) < limits.len() {
-        let limit = limits[i as usize] as usize;
-        if limit < Bundle::MOST - 1 {
-            rows[limit + 1] = with(rows[limit + 1], i);
-        }
+        let row = lesser(limits[i as usize] as usize, last);
+        rows[row] = with(rows[row], i);
         rest = without(rest, with(0, i));
         i = lowest(rest);
     }
+}
+
+// Puts those of each row, from the last on down, in the row before it.
+fn hand_on(rows: &mut [u64], last: usize)
+    requires { ⌜ (length (now rows) ≡ bundleMost) × (last < bundleMost) ⌝ }
+    ensures { λ _. ⌜ ((sound : ℕ) (limits : List ℕ) → Entered last sound limits (now (rows .entry)) → Filled last sound limits (now (rows .exit))) ⌝ }
+{
+    let mut k = last;
+    while 0 < k {
+        rows[k - 1] = either(rows[k - 1], rows[k]);
+        k -= 1;
+    }
+}
+
+fn lesser(a: usize, b: usize) -> usize
+    ensures { λ r. ⌜ r ≡ lesser a b ⌝ }
+{
+    if a < b {
+        return a;
+    }
+    b
 }

@@ -1,11 +1,9 @@
-// How a path stands under the policy, as a small value that is begun for the leaf and goes on place by place. Who falls away as it
-// goes on is read from the seats, which were filled once.
+// How a path stands under the policy, as a small value that is begun for the leaf and goes on place by place. Who may stand where is read
+// from the seats, which were filled once.
 use crate::Seats;
 use card::Bundle;
-use rows::Row;
-use rows::below;
 use rows::has;
-use rows::without;
+use rows::shared;
 ghost use mathlib.Core.Path.{_≡_};
 ghost use Rattle.policy.specs.Standing.{begun, over, added};
 
@@ -17,13 +15,13 @@ pub struct Standing {
     pub below: usize,
 }
 
-// Before the leaf, which any place may be.
+// Before the leaf: those may come that are sound as the leaf.
 pub fn begun(seats: &[u64; Seats::ROWS]) -> Standing
     ensures { λ r. ⌜ r ≡ begun (now (seats .entry)) ⌝ }
 {
     Standing {
-        places: below(Row::PLACES),
-        roots: without(below(Row::PLACES), seats[Bundle::MOST]),
+        places: seats[Seats::LEAVES],
+        roots: seats[Bundle::MOST],
         below: 0,
     }
 }
@@ -52,8 +50,8 @@ pub fn added(seats: &[u64; Seats::ROWS], standing: Standing, place: u8) -> Stand
     }
     let next = below + 1;
     Standing {
-        places: without(standing.places, seats[below]),
-        roots: without(over(standing, place), seats[Bundle::MOST + next]),
+        places: seats[below],
+        roots: shared(over(standing, place), seats[Bundle::MOST + next]),
         below: next,
     }
 }

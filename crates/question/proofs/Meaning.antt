@@ -54,7 +54,7 @@ module _ (s : List ℕ) (c : Card) (e : ℕ) (t : CardRead s c e) (time : Time) 
           let n = bundle-counted s c e t in
           let m = bundle-few s c e t in
           let k = simple-length (placesIn content) h′ in
-          rw q (root-judged s c e t time l (λ i x. let z = h′ .inside i x in omega arith) (omega arith) r)
+          rw q (root-judged s c e t time 0 l (λ i x. let z = h′ .inside i x in omega arith) (omega arith) r)
 
   pub qualifies-content : (p : List ℕ) (r : ℕ) → Simple (placesIn content) p → QualifiesBy rootsRead p r → QualifiesBy (rootsIn content time) p r
   qualifies-content p r h x = by-test (ltb r (length (content .roots))) refl

@@ -3,7 +3,7 @@
 use mathlib.Core.Bool.{Bool, true, false, _&&_, false≢true}
 use mathlib.Core.List.{List, [], _∷_}
 use mathlib.Core.Path.{_≡_, refl, sym, _∙_}
-use Prim.Native.Nat.{ℕ, _≤_}
+use Prim.Native.Nat.{ℕ, _-_, _≤_}
 use native.Mathlib.Omega.{arith}
 use borrow.Author.Tests.{ltb-true, lt-ltb}
 use lib.Dec.{ltb}
@@ -20,7 +20,7 @@ use Rattle.reply.specs.Settles.{Roots, QualifiesBy, Settles}
 use Rattle.reply.proofs.Agree.{settles-agree}
 use Rattle.steps.proofs.Ends.{ends-settles}
 
-module _ (judged : Judged) (n : ℕ) (some : 1 ≤ n) (few : n ≤ bundleMost) (seats : List ℕ) (seated : Seated judged seats) where
+module _ (judged : Judged) (n : ℕ) (some : 1 ≤ n) (few : n ≤ bundleMost) (seats : List ℕ) (seated : Seated judged (n - 1) seats) where
   abbrev places : Places
   places = placesBy (judged .issuing .bundle) n
 
@@ -35,7 +35,7 @@ module _ (judged : Judged) (n : ℕ) (some : 1 ≤ n) (few : n ≤ bundleMost) (
           let s′ : Simple places (0 ∷ l) = rw e at s in
           let k = s′ .inside (last 0 l) (last-among 0 l) in
           let h = simple-length places s′ in
-          rw e (roots-qualify judged seats seated 0 l (omega arith) (omega arith) (omega arith) r)
+          rw e (roots-qualify judged (n - 1) seats seated (omega arith) 0 l (omega arith) (omega arith) r)
 
   to : (p : List ℕ) (r : ℕ) → Simple places p → QualifiesBy seated-roots p r → QualifiesBy (rootsBy judged) p r
   to p r s (h, e) = both (ltb r rootsMost) (rootsBy judged .good p r) refl refl (sym (good-same p r s) ∙ e)

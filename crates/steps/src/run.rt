@@ -24,7 +24,7 @@ pub(crate) fn run(n: u8, judged: Judged, budget: u64) -> End
     let issuing = judged.issuing;
     let rows = issuing.bundle;
     let roots = issuing.roots;
-    let seats = seats_of(judged).rows;
+    let seats = seats_of(judged, n - 1).rows;
     walk(first(n, &seats), n, &rows, &roots, &seats, budget)
 }
 

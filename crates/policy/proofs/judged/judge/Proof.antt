@@ -1,7 +1,6 @@
 -- `judge` answers the facts of a card: its parts are what the functions below promise. Assumes nothing.
+use Rattle.policy.proofs.Once.{judged-is}
 use borrow.Author.Needs.{needs}
-use mathlib.Core.Path.{sym, _∙_}
-use Rattle.policy.proofs.Once.{above-sound, above-unsound, judged-is}
 use Rattle.policy.proofs.judged.judge.Statement.{statement}
 use Rattle.policy.proofs.judged.judge.Tie as tie
 
@@ -23,13 +22,12 @@ part-requires c κs = search needs
 record-requires : tie.Need-record-requires
 record-requires c κs = search needs
 
-leaf-sound-requires : tie.Need-leaf-sound-requires
-leaf-sound-requires c κs = search needs
+leaves-in-requires : tie.Need-leaves-in-requires
+leaves-in-requires c κs = search needs
 
 returns : tie.Need-returns
 returns c =
-    let l = c .before in
-    let r = l .before in
+    let r = c .before in
     let p = r .before in
     let above = p .before in
     let asked = above .before in
@@ -37,28 +35,8 @@ returns c =
     let i = b .before .before in
     let issued = i .who-issued .ensures in
     let a = i .before .before .args in
-    let s = a .file .now in
-    let sound = above-sound s _ _ _ _ _ (l .leaf-sound .ensures) (p .part .ensures) (r .«record» .ensures) _ (c .if1 .taken) in
-    judged-is s (a .time) (a .card) (issued .0) (issued .1) (b .places-between .ensures .0) (b .places-between .ensures .1) (asked .issuers-of .ensures)
-    (above .roots-above .ensures .0 ∙ sym sound)
-    (above .roots-above .ensures .1)
-
-returns-2 : tie.Need-returns-2
-returns-2 c =
-    let l = c .before .before in
-    let r = l .before in
-    let p = r .before in
-    let above = p .before in
-    let asked = above .before in
-    let b = asked .before in
-    let i = b .before .before in
-    let issued = i .who-issued .ensures in
-    let a = i .before .before .args in
-    let s = a .file .now in
-    let none = above-unsound s _ _ _ _ _ (l .leaf-sound .ensures) (p .part .ensures) (r .«record» .ensures) _ (c .before .if1 .left) in
-    judged-is s (a .time) (a .card) (issued .0) (issued .1) (b .places-between .ensures .0) (b .places-between .ensures .1) (asked .issuers-of .ensures)
-    (sym none)
-    (above .roots-above .ensures .1)
+    judged-is (a .file .now) (a .time) (a .card) (issued .0) (issued .1) (b .places-between .ensures .0) (b .places-between .ensures .1) (asked .issuers-of .ensures)
+    (above .roots-above .ensures .0) (above .roots-above .ensures .1) (p .part .ensures) (r .«record» .ensures) (c .leaves-in .ensures)
 
 pub judge-spec : {M : Type 1} → statement M
 judge-spec =
@@ -70,6 +48,5 @@ judge-spec =
     roots-above-requires
     part-requires
     record-requires
-    leaf-sound-requires
-    returns
-    returns-2)
+    leaves-in-requires
+    returns)

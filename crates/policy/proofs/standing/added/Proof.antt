@@ -15,36 +15,32 @@ returns c = added-full _ _ _ (c .if1 .taken)
 add-next : tie.Need-add-next
 add-next c = search needs
 
-mul-without : tie.Need-mul-without
-mul-without c = search needs
+mul-t6 : tie.Need-mul-t6
+mul-t6 c = search needs
 
-element-copy-out-without : tie.Need-element-copy-out-without
-element-copy-out-without c = search needs
-
-without-requires : tie.Need-without-requires
-without-requires c κs = search needs
+element-copy-out-t10 : tie.Need-element-copy-out-t10
+element-copy-out-t10 c = search needs
 
 over-requires : tie.Need-over-requires
 over-requires c κs = search needs
 
-add-without : tie.Need-add-without
-add-without c = search needs
+add-shared : tie.Need-add-shared
+add-shared c = search needs
 
-mul-without-2 : tie.Need-mul-without-2
-mul-without-2 c = search needs
+mul-shared : tie.Need-mul-shared
+mul-shared c = search needs
 
-element-copy-out-without-2 : tie.Need-element-copy-out-without-2
-element-copy-out-without-2 c = search needs
+element-copy-out-shared : tie.Need-element-copy-out-shared
+element-copy-out-shared c = search needs
 
-without-requires-2 : tie.Need-without-requires-2
-without-requires-2 c κs = search needs
+shared-requires : tie.Need-shared-requires
+shared-requires c κs = search needs
 
 returns-2 : tie.Need-returns-2
 returns-2 c =
     let o = c .before .before in
-    let s = o .before .before .before .before in
-    added-is (s .args .seats .now) (s .args .standing) (s .args .place) (omega (arith, o .before .before .before .if1 .left)) (o .before .without .ensures)
-    (c .without2 .ensures ∙ rw (o .over .ensures))
+    let s = o .before .before .before in
+    added-is (s .args .seats .now) (s .args .standing) (s .args .place) (omega (arith, o .before .before .if1 .left)) (c .shared .ensures ∙ rw (o .over .ensures))
 
 pub added-spec : {M : Type 1} → statement M
 added-spec =
@@ -53,12 +49,11 @@ added-spec =
     sub-if1
     returns
     add-next
-    mul-without
-    element-copy-out-without
-    without-requires
+    mul-t6
+    element-copy-out-t10
     over-requires
-    add-without
-    mul-without-2
-    element-copy-out-without-2
-    without-requires-2
+    add-shared
+    mul-shared
+    element-copy-out-shared
+    shared-requires
     returns-2)

@@ -4,6 +4,9 @@ use borrow.Author.Needs.{needs}
 use Rattle.steps.proofs.run.run.Statement.{statement}
 use Rattle.steps.proofs.run.run.Tie as tie
 
+sub-seats-of : tie.Need-sub-seats-of
+sub-seats-of c = search needs
+
 seats-of-requires : tie.Need-seats-of-requires
 seats-of-requires c κs = search needs
 
@@ -24,4 +27,4 @@ returns c =
     settled (s .args .judged) (s .args .n) (s .pre .0) (s .pre .1) _ (t .seats-of .ensures) (rw (f .first .ensures .1) at (c .walk .ensures))
 
 pub run-spec : {M : Type 1} → statement M
-run-spec = tie.close (tie.spec seats-of-requires first-requires walk-requires returns)
+run-spec = tie.close (tie.spec sub-seats-of seats-of-requires first-requires walk-requires returns)
