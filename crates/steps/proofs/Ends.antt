@@ -15,7 +15,6 @@ use Rattle.order.proofs.Bound.{after-fits}
 use Rattle.order.proofs.Stack.{stack-waits}
 use Rattle.order.proofs.Waiting.{waiting-step, waiting-end, stack-taken, stack-after}
 use Rattle.order.proofs.Tree.{paths-listing}
-use Rattle.rows.specs.Rows.{highest}
 use Rattle.reply.specs.declared.Reply.the-variants as reply
 use Rattle.reply.specs.declared.Answer.{Answer}
 use Rattle.reply.specs.Answer.{pathShown, Tells, Paused, Searched}
@@ -43,7 +42,7 @@ module _ {g : Places} {w : Roots} {st : List (List ℕ)} {k : ℕ} (U : Vain g w
   vain-more e n = rw add-one (vain-suc e n)
 
   module _ {seats ahead : List ℕ} {levels : List Level} {place : List ℕ} {row : ℕ} {here : Level} {d : ℕ} (S : Stands g seats st ahead levels place row here d k) {budget : ℕ} where
-    pub stop-refused : 64 ≤ highest row → d ≡ 0 → k ≤ budget
+    pub stop-refused : row ≡ 0 → d ≡ 0 → k ≤ budget
         → Stopped g (Ends g w budget st) st (record { reply = reply.Refused k; len = 0; place = place; ahead = set ahead d row; depths = d + 1 })
     stop-refused none z t = record {
       outcome = refused k;
@@ -56,11 +55,11 @@ module _ {g : Places} {w : Roots} {st : List (List ℕ)} {k : ℕ} (U : Vain g w
       left = closed S;
     }
 
-    pub stop-exhausted : {i : ℕ} → i ≡ highest row → i < 64 → k ≤ budget → budget ≤ k
+    pub stop-exhausted : ¬ (row ≡ 0) → k ≤ budget → budget ≤ k
         → Stopped g (Ends g w budget st) st (record { reply = reply.Exhausted k; len = 0; place = place; ahead = set ahead d row; depths = d + 1 })
-    stop-exhausted e s t u = record {
+    stop-exhausted some t u = record {
       outcome = exhausted k;
-      ends = (omega arith, U, (_, met S e s));
+      ends = (omega arith, U, (_, met S refl some));
       says = refl;
       short = zero-le;
       long = S .lp;

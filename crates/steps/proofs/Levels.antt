@@ -8,6 +8,7 @@ use Prim.Native.Nat.{ℕ, zero, suc, _+_, _-_, _^_, _≤_, _<_}
 use native.Mathlib.Numerals.{add-one}
 use native.Mathlib.Omega.{arith}
 use borrow.Author.Tests.{eqb-true, eqb-false, ne-eqb, lt-ltb, le-ltb}
+use lib.Bits.{bitAnd, and-le-l, xor-lt}
 use lib.Dec.{eqb, ltb}
 use lib.ListN.{length, take, getD, set, length-set}
 use lib.Seq.{length-take-le, take-set-le, take-suc-set, getD-set-same, getD-set-other}
@@ -19,7 +20,7 @@ use Rattle.order.proofs.Simple.{last-snoc, simple-length}
 use Rattle.order.proofs.Tree.{kid-simple, start-simple}
 use Rattle.rows.specs.Rows.{has, joined, left, common, highest, below}
 use Rattle.rows.proofs.Places.{has-none, has-joined, has-dropped, has-common}
-use Rattle.rows.proofs.Upper.{highest-has, highest-above, highest-none, highest-place, has-below}
+use Rattle.rows.proofs.Upper.{highest-has, highest-above, highest-place, has-below}
 use Rattle.policy.specs.Standing.{begun, over, addedAll, rootsOver}
 use Rattle.policy.specs.declared.standing.Standing.{Standing}
 use Rattle.policy.proofs.Adding.{standing-more, over-more}
@@ -40,6 +41,9 @@ pub offered-none : (n row : ℕ) (p : List ℕ) → ((j : ℕ) → has j row ≡
 unfolding offered
 offered-none zero row p h = refl
 offered-none (suc n) row p h = rw (h n) (offered-none n row p h)
+
+offered-zero : (n : ℕ) {row : ℕ} (p : List ℕ) → row ≡ 0 → offered n row p ≡ []
+offered-zero n {row} p z = offered-none n row p (λ j. ap (has j) z ∙ has-none j)
 
 offered-kids : (g : Places) (row : ℕ) (p : List ℕ) → ((j : ℕ) → j < g .size → has j row ≡ not (used j p) && g .issued j (last 0 p))
     → offered (g .size) row p ≡ kids g p
@@ -97,6 +101,15 @@ waiting-last n o l d = rw add-one
 abbrev pub stackAt : ℕ → List ℕ → List ℕ → ℕ → ℕ → List (List ℕ)
 stackAt n ahead place d row = offered n row (take d place) ++ waiting n ahead place d
 
+-- the row and the level at the depth after p; the row fits its 64 bits, so that it has a highest place where it is not 0
+pub record RowAfter (n : ℕ) (seats p : List ℕ) (row : ℕ) (l : Level) : Type 0 where
+  pub after : LevelAfter n seats p row l
+  pub fits : row < 2 ^ 64
+
+left-fits : (row taken : ℕ) → row < 2 ^ 64 → left row taken < 2 ^ 64
+unfolding left
+left-fits row taken f = xor-lt 64 row (bitAnd row taken) f (omega (arith, and-le-l row taken))
+
 -- k steps from the stack st lead to this state
 pub record Stands (g : Places) (seats : List ℕ) (st : List (List ℕ)) (ahead : List ℕ) (levels : List Level) (place : List ℕ) (row : ℕ) (here : Level) (d k : ℕ) : Type 0 where
   pub few : g .size ≤ bundleMost
@@ -104,21 +117,22 @@ pub record Stands (g : Places) (seats : List ℕ) (st : List (List ℕ)) (ahead 
   pub ll : length levels ≡ bundleMost
   pub lp : length place ≡ bundleMost
   pub deep : d < bundleMost
-  pub level : LevelAfter (g .size) seats (take d place) row here
-  pub each : (j : ℕ) → j < d → LevelAfter (g .size) seats (take j place) (getD ahead j 0) (levelAt levels j)
+  pub level : RowAfter (g .size) seats (take d place) row here
+  pub each : (j : ℕ) → j < d → RowAfter (g .size) seats (take j place) (getD ahead j 0) (levelAt levels j)
   pub stack : pops g k st ≡ stackAt (g .size) ahead place d row
   pub simple : (p : List ℕ) → p among pops g k st → Simple g p
 
 pub stands-start : {g : Places} {seats : List ℕ} {s : Depths} → g .size ≤ bundleMost → length (s .ahead) ≡ bundleMost → length (s .place) ≡ bundleMost
+    → ((j : ℕ) → getD (s .ahead) j 0 < 2 ^ 64)
     → Ready g seats s → Stands g seats (stackOf (g .size) s) (s .ahead) (s .levels) (s .place) (getD (s .ahead) (s .depth) 0) (levelAt (s .levels) (s .depth)) (s .depth) 0
-stands-start {g} {seats} {s} few la lp r = record {
+stands-start {g} {seats} {s} few la lp fits r = record {
   few = few;
   la = la;
   ll = r .long;
   lp = lp;
   deep = r .deep;
-  level = r .each (s .depth) (omega arith);
-  each = λ j h. r .each j (omega arith);
+  level = record { after = r .each (s .depth) (omega arith); fits = fits (s .depth) };
+  each = λ j h. record { after = r .each j (omega arith); fits = fits j };
   stack = waiting-last (g .size) (s .ahead) (s .place) (s .depth);
   simple = r .simple;
 }
@@ -177,9 +191,9 @@ module _ {g : Places} {seats : List ℕ} {st : List (List ℕ)} {ahead : List �
 
     -- ---- no place is left at this depth
 
-    module _ (none : 64 ≤ highest row) where
+    module _ (none : row ≡ 0) where
       over-there : pops g k st ≡ waiting (g .size) ahead place d
-      over-there = S .stack ∙ ap (λ (s : List (List ℕ)). s ++ waiting (g .size) ahead place d) (offered-none (g .size) row (take d place) (highest-none row none))
+      over-there = S .stack ∙ ap (λ (s : List (List ℕ)). s ++ waiting (g .size) ahead place d) (offered-zero (g .size) (take d place) none)
 
       pub over-all : d ≡ 0 → pops g k st ≡ []
       unfolding waiting
@@ -209,18 +223,21 @@ but-either true false z = refl
 but-either false y z = refl
 
 module _ {g : Places} {seats : List ℕ} {st : List (List ℕ)} {ahead : List ℕ} {levels : List Level} {place : List ℕ} {row : ℕ} {level : Level} {d k : ℕ}
-    (S : Stands g seats st ahead levels place row level d k) {i : ℕ} (which : i ≡ highest row) (some : i < 64)
+    (S : Stands g seats st ahead levels place row level d k) {i : ℕ} (which : i ≡ highest row) (some : ¬ (row ≡ 0))
   where
+    taken-low : i < 64
+    taken-low = rw which (highest-place row (omega (arith, some)) (S .level .fits))
+
     taken-has : has i row ≡ true
-    taken-has = rw which (highest-has row (omega arith))
+    taken-has = rw which (highest-has row (omega (arith, taken-low)))
 
     pub place-low : i < g .size
-    place-low = let h : ¬ (g .size ≤ i) = λ h. false≢true (sym (S .level .within i h) ∙ taken-has) in omega arith
+    place-low = let h : ¬ (g .size ≤ i) = λ h. false≢true (sym (S .level .after .within i h) ∙ taken-has) in omega arith
 
     split : pops g k st ≡ snoc (take d place) i ∷ stackAt (g .size) ahead place d (left row (joined 0 i))
     split =
         S .stack ∙ ap (λ (s : List (List ℕ)). s ++ waiting (g .size) ahead place d)
-        (offered-top (g .size) row i (take d place) taken-has (λ j h. highest-above row (omega arith) j (omega arith)) some place-low)
+        (offered-top (g .size) row i (take d place) taken-has (λ j h. highest-above row (omega (arith, taken-low)) j (omega arith)) taken-low place-low)
 
     -- the path that the next step takes
     pub met : top (pops g k st) ≡ snoc (take d place) i ∷ []
@@ -231,7 +248,7 @@ module _ {g : Places} {seats : List ℕ} {st : List (List ℕ)} {ahead : List �
 
     -- its roots
     pub roots-are : (issued : List ℕ) {tops : ℕ} → tops ≡ common (over (level .standing) i) (getD issued i 0) → tops ≡ rootsOver issued seats (snoc (take d place) i)
-    roots-are issued e = e ∙ rw (S .level .stands) (sym (over-more seats issued (take d place) i))
+    roots-are issued e = e ∙ rw (S .level .after .stands) (sym (over-more seats issued (take d place) i))
 
     -- what does not change
 
@@ -241,14 +258,17 @@ module _ {g : Places} {seats : List ℕ} {st : List (List ℕ)} {ahead : List �
     under-kept : (o : List ℕ) → ((j : ℕ) → j < d → getD o j 0 ≡ getD ahead j 0) → waiting (g .size) o (set place d i) d ≡ waiting (g .size) ahead place d
     under-kept o h = waiting-same (g .size) o ahead (set place d i) place d h (λ j l. take-kept j (omega arith))
 
-    level-here : LevelAfter (g .size) seats (take d (set place d i)) (left row (joined 0 i)) level
+    level-here : RowAfter (g .size) seats (take d (set place d i)) (left row (joined 0 i)) level
     level-here = rw (take-kept d (omega arith)) (record {
-      within = λ j h. has-dropped row i some j ∙ rw (S .level .within j h);
-      unused = S .level .unused;
-      stands = S .level .stands;
+      after = record {
+        within = λ j h. has-dropped row i taken-low j ∙ rw (S .level .after .within j h);
+        unused = S .level .after .unused;
+        stands = S .level .after .stands;
+      };
+      fits = left-fits row (joined 0 i) (S .level .fits);
     })
 
-    level-kept : (j : ℕ) → j < d → LevelAfter (g .size) seats (take j (set place d i)) (getD ahead j 0) (levelAt levels j)
+    level-kept : (j : ℕ) → j < d → RowAfter (g .size) seats (take j (set place d i)) (getD ahead j 0) (levelAt levels j)
     level-kept j h = rw (take-kept j (omega arith)) (S .each j h)
 
     simple-after : (q : List ℕ) → q among pops g (suc k) st → Simple g q
@@ -259,8 +279,8 @@ module _ {g : Places} {seats : List ℕ} {st : List (List ℕ)} {ahead : List �
     module _ (issuers : ℕ) (issued : (j : ℕ) → has j issuers ≡ g .issued j i) {next : ℕ} (is : next ≡ common (left (level .free) (joined 0 i)) issuers) where
       unused-next : (j : ℕ) → has j (left (level .free) (joined 0 i)) ≡ ltb j (g .size) && not (used j (snoc (take d place) i))
       unused-next j =
-          has-dropped (level .free) i some j
-          ∙ rw (S .level .unused j, used-snoc j (take d place) i) (but-either (ltb j (g .size)) (used j (take d place)) (eqb j i))
+          has-dropped (level .free) i taken-low j
+          ∙ rw (S .level .after .unused j, used-snoc j (take d place) i) (but-either (ltb j (g .size)) (used j (take d place)) (eqb j i))
 
       next-has : (j : ℕ) → has j next ≡ (ltb j (g .size) && not (used j (snoc (take d place) i))) && g .issued j i
       next-has j = ap (has j) is ∙ has-common j _ issuers ∙ ap₂ _&&_ (unused-next j) (issued j)
@@ -294,7 +314,7 @@ module _ {g : Places} {seats : List ℕ} {st : List (List ℕ)} {ahead : List �
         deep = S .deep;
         level = level-here;
         each = level-kept;
-        stack = popped ∙ rw (offered-none (g .size) next (snoc (take d place) i) (λ j. ap (has j) z ∙ has-none j), take-kept d (omega arith), under-kept ahead (λ j h. refl));
+        stack = popped ∙ rw (offered-zero (g .size) (snoc (take d place) i) z, take-kept d (omega arith), under-kept ahead (λ j h. refl));
         simple = simple-after;
       }
 
@@ -310,7 +330,7 @@ module _ {g : Places} {seats : List ℕ} {st : List (List ℕ)} {ahead : List �
       put-kept j h = getD-set-other ahead d j (left row (joined 0 i)) 0 (λ (z : j ≡ d). omega arith)
 
       level-new : (j : ℕ) → j < d + 1 → (t : Bool) → eqb j d ≡ t
-          → LevelAfter (g .size) seats (take j (set place d i)) (getD (set ahead d (left row (joined 0 i))) j 0) (levelAt (set levels d level) j)
+          → RowAfter (g .size) seats (take j (set place d i)) (getD (set ahead d (left row (joined 0 i))) j 0) (levelAt (set levels d level) j)
       level-new j h true e = rw (eqb-true j d e, put-here, getD-set-same levels d level _ (omega (arith, S .ll, S .deep))) level-here
       level-new j h false e =
           let ne : j ≡ d → ⊥ = eqb-false j d e in
@@ -326,9 +346,12 @@ module _ {g : Places} {seats : List ℕ} {st : List (List ℕ)} {ahead : List �
         lp = length-set place d i ∙ S .lp;
         deep = deeper h f;
         level = rw path-is (record {
-          within = next-within;
-          unused = unused-next;
-          stands = rw (S .level .stands) (sym (standing-more seats (take d place) i));
+          after = record {
+            within = next-within;
+            unused = unused-next;
+            stands = rw (S .level .after .stands) (sym (standing-more seats (take d place) i));
+          };
+          fits = f;
         });
         each = λ j l. level-new j l (eqb j d) refl;
         stack = popped ∙ rw (path-is, waiting-last (g .size) (set ahead d (left row (joined 0 i))) (set place d i) d, put-here, take-kept d (omega arith), under-kept (set ahead d (left row (joined 0 i))) put-kept);

@@ -8,7 +8,6 @@ use policy::added;
 use policy::begun;
 use policy::over;
 use reply::Reply;
-use rows::Row;
 use rows::below;
 use rows::highest;
 use rows::lowest;
@@ -113,8 +112,7 @@ pub(crate) fn walk(
     let mut here = levels[d];
     let mut steps = 0;
     loop {
-        let i = highest(row);
-        if Row::PLACES <= i {
+        if row == 0 {
             if d == 0 {
                 return stopped(Reply::Refused { steps }, 0, place, ahead, d, row);
             }
@@ -127,6 +125,7 @@ pub(crate) fn walk(
             return stopped(Reply::Exhausted { steps }, 0, place, ahead, d, row);
         }
         steps += 1;
+        let i = highest(row);
         place[d] = i;
         row = without(row, with(0, i));
         let next = children(here, i, rows[i as usize]);

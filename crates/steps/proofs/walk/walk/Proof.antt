@@ -6,7 +6,9 @@ use Prim.Native.Nat.{ℕ, _+_, _*_, _-_, _≤_, _<_, zero-le}
 use mathlib.Core.Path.{_≡_, refl, ap, _∙_}
 use mathlib.Core.List.{List, [], _∷_}
 use mathlib.Core.Logic.{⊎-elim}
-use lib.ListN.{take, set}
+use lib.ListN.{take, getD, set}
+use mir.Syntax.{w64}
+use mir.Val.{Fits}
 use Rattle.places.specs.Limits.{bundleMost}
 use Rattle.order.specs.Paths.{Places}
 use Rattle.order.specs.Walk.{snoc, pops, top}
@@ -40,22 +42,23 @@ mul-here c = search needs
 array-copy-out-here : tie.Need-array-copy-out-here Inv-loop μ-loop
 array-copy-out-here c = search needs
 
+-- each row of the state that the walk began with is a `u64`
+wide : (s : tie.Start Inv-loop μ-loop) (j : ℕ) → Fits w64 (getD (s .args .from .ahead) j 0)
+wide s j = search needs
+
 loop-holds : tie.Need-loop-holds Inv-loop μ-loop
 loop-holds c =
     let s = c .before .before .before .before in
-    record { stands = stands-start (s .pre .0) (search needs) (search needs) (s .pre .1); vain = vain-none; time = zero-le }
-
-highest-requires : tie.Need-highest-requires Inv-loop μ-loop
-highest-requires c κs = search needs
+    record { stands = stands-start (s .pre .0) (search needs) (search needs) (λ j. wide s j .fits) (s .pre .1); vain = vain-none; time = zero-le }
 
 stopped-requires : tie.Need-stopped-requires Inv-loop μ-loop
 stopped-requires c κs = search needs
 
 returns : tie.Need-returns Inv-loop μ-loop
 returns c =
-    let l = c .before .before .before .before .loop in
+    let l = c .before .before .before .loop in
     rw (c .stopped .ensures)
-    (stop-refused (l .inv .vain) (l .inv .stands) (rw (← c .before .before .before .highest .ensures) (c .before .before .if1 .taken)) (c .before .if2 .taken) (l .inv .time))
+    (stop-refused (l .inv .vain) (l .inv .stands) (c .before .before .if1 .taken) (c .before .if2 .taken) (l .inv .time))
 
 sub-d : tie.Need-sub-d Inv-loop μ-loop
 sub-d c = search needs
@@ -77,9 +80,9 @@ loop-less c = search needs
 
 loop-again : tie.Need-loop-again Inv-loop μ-loop
 loop-again c =
-    let l = c .before .before .before .before .loop in
+    let l = c .before .before .before .loop in
     record {
-      stands = climbed (l .inv .stands) (rw (← c .before .before .before .highest .ensures) (c .before .before .if1 .taken)) (omega (arith, c .before .if2 .left));
+      stands = climbed (l .inv .stands) (c .before .before .if1 .taken) (omega (arith, c .before .if2 .left));
       vain = l .inv .vain;
       time = l .inv .time;
     }
@@ -89,12 +92,15 @@ stopped-requires-2 c κs = search needs
 
 returns-2 : tie.Need-returns-2 Inv-loop μ-loop
 returns-2 c =
-    let l = c .before .before .before .before .loop in
+    let l = c .before .before .before .loop in
     rw (c .stopped2 .ensures)
-    (stop-exhausted (l .inv .vain) (l .inv .stands) (c .before .before .before .highest .ensures) (omega (arith, c .before .before .if1 .left)) (l .inv .time) (c .before .if3 .taken))
+    (stop-exhausted (l .inv .vain) (l .inv .stands) (c .before .before .if1 .left) (l .inv .time) (c .before .if3 .taken))
 
 add-steps : tie.Need-add-steps Inv-loop μ-loop
 add-steps c = search needs
+
+highest-requires : tie.Need-highest-requires Inv-loop μ-loop
+highest-requires c κs = search needs
 
 array-write-place : tie.Need-array-write-place Inv-loop μ-loop
 array-write-place c = search needs
@@ -112,14 +118,11 @@ mul-children : tie.Need-mul-children Inv-loop μ-loop
 mul-children c = search needs
 
 -- the place that is taken is below the bundle's limit
-low : (c : tie.After-without Inv-loop μ-loop) → c .before .before .before .before .highest .result < bundleMost
-low c =
-    let h = c .before .before .before .before in
-    let S = h .before .loop .inv .stands in
-    omega (arith, place-low S (h .highest .ensures) (omega (arith, c .before .before .before .if1 .left)), S .few)
+low : (h : tie.After-highest Inv-loop μ-loop) → h .highest .result < bundleMost
+low h = let S = h .before .before .before .loop .inv .stands in omega (arith, place-low S (h .highest .ensures) (h .before .before .if1 .left), S .few)
 
 element-copy-out-children : tie.Need-element-copy-out-children Inv-loop μ-loop
-element-copy-out-children c = low c
+element-copy-out-children c = low (c .before .before)
 
 children-requires : tie.Need-children-requires Inv-loop μ-loop
 children-requires c κs = search needs
@@ -131,7 +134,7 @@ mul-roots-over : tie.Need-mul-roots-over Inv-loop μ-loop
 mul-roots-over c = search needs
 
 element-copy-out-roots-over : tie.Need-element-copy-out-roots-over Inv-loop μ-loop
-element-copy-out-roots-over c = low (c .before .before)
+element-copy-out-roots-over c = low (c .before .before .before .before)
 
 roots-over-requires : tie.Need-roots-over-requires Inv-loop μ-loop
 roots-over-requires c κs = search needs
@@ -154,15 +157,18 @@ array-set-from-levels c = search needs
 onward-requires : tie.Need-onward-requires Inv-loop μ-loop
 onward-requires c κs = search needs
 
--- when the path's roots are known, what came before: the function's beginning, the choice of the place, the path by it
+-- when the path's roots are known, what came before: the function's beginning, the choice of the place, the turn's beginning, the path by the place
 abbrev entry : tie.After-roots-over Inv-loop μ-loop → tie.Start Inv-loop μ-loop
 entry t = t .before .before .before .before .before .before .before .before .before .before .before .before .before .before
 
 abbrev chosen : tie.After-roots-over Inv-loop μ-loop → tie.After-highest Inv-loop μ-loop
-chosen t = t .before .before .before .before .before .before .before .before
+chosen t = t .before .before .before .before .before .before
+
+abbrev turn : tie.After-roots-over Inv-loop μ-loop → tie.At-loop Inv-loop μ-loop
+turn t = chosen t .before .before .before
 
 abbrev path : tie.After-roots-over Inv-loop μ-loop → List ℕ
-path t = snoc (take (chosen t .before .loop .d) (chosen t .before .loop .place)) (chosen t .highest .result)
+path t = snoc (take (turn t .loop .d) (turn t .loop .place)) (chosen t .highest .result)
 
 abbrev graph : tie.After-roots-over Inv-loop μ-loop → Places
 graph t = placesBy (entry t .args .rows .now) (entry t .args .n)
@@ -170,33 +176,33 @@ graph t = placesBy (entry t .args .rows .now) (entry t .args .n)
 abbrev began : tie.After-roots-over Inv-loop μ-loop → List (List ℕ)
 began t = stackOf (entry t .args .n) (entry t .args .from)
 
-some : (t : tie.After-roots-over Inv-loop μ-loop) → chosen t .highest .result < 64
-some t = omega (arith, t .before .before .before .before .before .before .before .if1 .left)
+some : (t : tie.After-roots-over Inv-loop μ-loop) → ¬ (turn t .loop .row ≡ 0)
+some t = chosen t .before .before .if1 .left
 
-time : (t : tie.After-roots-over Inv-loop μ-loop) → chosen t .before .loop .steps < entry t .args .budget
-time t = omega (arith, t .before .before .before .before .before .before .if3 .left)
+time : (t : tie.After-roots-over Inv-loop μ-loop) → turn t .loop .steps < entry t .args .budget
+time t = omega (arith, chosen t .before .if3 .left)
 
 -- the row without the place
-fewer : (t : tie.After-roots-over Inv-loop μ-loop) → t .before .before .before .before .without .result ≡ left (chosen t .before .loop .row) (joined 0 (chosen t .highest .result))
-fewer t = t .before .before .before .before .without .ensures ∙ ap (left (chosen t .before .loop .row)) (t .before .before .before .before .before .with .ensures)
+fewer : (t : tie.After-roots-over Inv-loop μ-loop) → t .before .before .before .before .without .result ≡ left (turn t .loop .row) (joined 0 (chosen t .highest .result))
+fewer t = t .before .before .before .before .without .ensures ∙ ap (left (turn t .loop .row)) (t .before .before .before .before .before .with .ensures)
 
 -- the path's roots as a row
 over : (t : tie.After-roots-over Inv-loop μ-loop) → t .roots-over .result ≡ rootsOver (entry t .args .roots .now) (entry t .args .seats .now) (path t)
-over t = roots-are (chosen t .before .loop .inv .stands) (chosen t .highest .ensures) (some t) _ (t .roots-over .ensures)
+over t = roots-are (turn t .loop .inv .stands) (chosen t .highest .ensures) (some t) _ (t .roots-over .ensures)
 
 -- it was on top
-on-top : (t : tie.After-roots-over Inv-loop μ-loop) → top (pops (graph t) (chosen t .before .loop .steps) (began t)) ≡ path t ∷ []
-on-top t = met (chosen t .before .loop .inv .stands) (chosen t .highest .ensures) (some t)
+on-top : (t : tie.After-roots-over Inv-loop μ-loop) → top (pops (graph t) (turn t .loop .steps) (began t)) ≡ path t ∷ []
+on-top t = met (turn t .loop .inv .stands) (chosen t .highest .ensures) (some t)
 
 -- the state after the step, and how deep it is
 moved : (c : tie.Joined4 Inv-loop μ-loop) → let t = c .before in
     Stands (graph t) (entry t .args .seats .now) (began t) (c .if4 .ahead) (c .if4 .levels)
-    (set (chosen t .before .loop .place) (chosen t .before .loop .d) (chosen t .highest .result)) (c .if4 .row) (c .if4 .here) (c .if4 .d)
-    (chosen t .before .loop .steps + 1)
-    × (c .if4 .d ≤ chosen t .before .loop .d + 1)
+    (set (turn t .loop .place) (turn t .loop .d) (chosen t .highest .result)) (c .if4 .row) (c .if4 .here) (c .if4 .d)
+    (turn t .loop .steps + 1)
+    × (c .if4 .d ≤ turn t .loop .d + 1)
 moved c =
     let t = c .before in
-    let S = chosen t .before .loop .inv .stands in
+    let S = turn t .loop .inv .stands in
     let next = t .before .before .children .ensures in
     ⊎-elim
     (λ w. (rw (w .2, w .3, w .4, w .5, w .6) (sank S (chosen t .highest .ensures) (some t) _ (λ j. refl) next (fewer t) (w .1 .ensures) (omega (arith, w .0 .taken)) (search needs)), omega (arith, w .4)))
@@ -213,7 +219,7 @@ returns-3 : tie.Need-returns-3 Inv-loop μ-loop
 returns-3 c =
     let j = c .before .before .before in
     let t = j .before in
-    let l = chosen t .before .loop in
+    let l = turn t .loop in
     let r = row-found _ _ _ (over t) (omega (arith, c .before .before .if5 .taken)) (search needs) in
     rw (c .stopped3 .ensures, c .before .lowest .ensures)
     (stop-accepted (l .inv .vain) (moved j .0) (on-top t) (time t) r (omega (arith, l .inv .stands .deep)) (path-is (l .inv .stands) (chosen t .highest .ensures) (some t)))
@@ -226,7 +232,7 @@ loop-again-2 c =
     let t = c .before .before in
     record {
       stands = moved (c .before) .0;
-      vain = vain-more (chosen t .before .loop .inv .vain) (on-top t) (row-none _ _ _ (over t) (c .if5 .left));
+      vain = vain-more (turn t .loop .inv .vain) (on-top t) (row-none _ _ _ (over t) (c .if5 .left));
       time = omega (arith, time t);
     }
 
@@ -241,7 +247,6 @@ walk-spec =
     mul-here
     array-copy-out-here
     loop-holds
-    highest-requires
     stopped-requires
     returns
     sub-d
@@ -254,6 +259,7 @@ walk-spec =
     stopped-requires-2
     returns-2
     add-steps
+    highest-requires
     array-write-place
     with-requires
     without-requires
