@@ -1,160 +1,102 @@
-//! Rust by depths: the library's own walk. What waits is kept as a row of places for each depth of the path, and the roots that may still
-//! stand above as a row beside it, so that a step goes through no path. The lent room is left as it is.
+//! Rust by depths: the library's own walk, with all that it keeps: rows of 64 bits, and for each depth the places that the path before
+//! leaves free and how that path stands. A step goes through no path. The lent room is left as it is.
 
 use crate::answer::Answer;
 use crate::question::Question;
+use crate::seats::Seats;
 
-/// Where a walk stands at one depth.
+/// How a path stands that is to go on.
 #[derive(Clone, Copy)]
-struct Rows {
-    /// The places still to be taken here.
-    ahead: u32,
+struct Standing {
+    /// The places that may come next.
+    places: u64,
+    /// The roots that may then stand above.
+    roots: u64,
+    /// How many certificates are then between those and the leaf.
+    below: usize,
+}
+
+impl Standing {
+    fn begun(seats: &Seats) -> Standing {
+        Standing {
+            places: seats.places[0],
+            roots: seats.roots[0],
+            below: 0,
+        }
+    }
+
+    /// The roots that may stand above where it goes on by a place.
+    fn over(self, place: usize) -> u64 {
+        if self.places >> place & 1 != 0 {
+            self.roots
+        } else {
+            0
+        }
+    }
+
+    fn added(self, seats: &Seats, place: usize) -> Standing {
+        let below = self.below + 1;
+        Standing {
+            places: seats.places[below],
+            roots: self.over(place) & seats.roots[below],
+            below,
+        }
+    }
+}
+
+/// What is kept of a depth beside the places that are still to be taken there.
+#[derive(Clone, Copy)]
+struct Level {
     /// The places that the path before leaves free.
-    free: u32,
-    /// The roots that may stand above a path that ends here: none where a place before may not stand where it does.
-    standing: u32,
-}
-
-impl Rows {
-    /// At the first depth only the leaf is to be taken.
-    fn first(size: usize, standing: u32) -> Rows {
-        Rows {
-            ahead: 1,
-            free: (1 << size) - 1,
-            standing,
-        }
-    }
-
-    /// Takes the highest place, which the versions with a stack push last.
-    fn take(&mut self) -> usize {
-        let place = self.ahead.ilog2();
-        self.ahead ^= 1 << place;
-        place as usize
-    }
-
-    /// The rows past a place, by the places that issued it and those that may stand where it does.
-    fn past(self, place: usize, issuers: u32, seats: u32) -> Rows {
-        let taken = 1 << place;
-        let free = self.free ^ taken;
-        Rows {
-            ahead: free & issuers,
-            free,
-            standing: if seats & taken != 0 { self.standing } else { 0 },
-        }
-    }
-}
-
-/// The rows of the depths before, each kind by itself, since a number is found faster than a struct of three.
-struct Depths {
-    ahead: [u32; 16],
-    free: [u32; 16],
-    standing: [u32; 16],
-}
-
-impl Depths {
-    const NONE: Depths = Depths {
-        ahead: [0; 16],
-        free: [0; 16],
-        standing: [0; 16],
-    };
-
-    fn keep(&mut self, depth: usize, rows: Rows) {
-        self.ahead[depth] = rows.ahead;
-        self.free[depth] = rows.free;
-        self.standing[depth] = rows.standing;
-    }
-
-    fn kept(&self, depth: usize) -> Rows {
-        Rows {
-            ahead: self.ahead[depth],
-            free: self.free[depth],
-            standing: self.standing[depth],
-        }
-    }
-}
-
-/// What the path lengths let stand at each depth, worked out once.
-struct Limits {
-    /// The places that may stand there.
-    seats: [u32; 16],
-    /// The roots that may stand above a path that ends there.
-    above: [u32; 16],
-}
-
-impl Limits {
-    const NONE: Limits = Limits {
-        seats: [0; 16],
-        above: [0; 16],
-    };
-
-    /// What may stand at a depth may stand at every lesser one, so each is entered at its deepest and then handed on.
-    fn fill(&mut self, question: &Question) {
-        self.enter_places(question);
-        self.enter_roots(question);
-        for depth in (1..question.size).rev() {
-            self.seats[depth - 1] |= self.seats[depth];
-            self.above[depth - 1] |= self.above[depth];
-        }
-        self.seats[0] = 1;
-    }
-
-    fn enter_places(&mut self, question: &Question) {
-        for place in 1..question.size {
-            let deepest = usize::from(question.place_limits[place]) + 1;
-            self.seats[deepest.min(question.size - 1)] |= u32::from(question.between) & 1 << place;
-        }
-    }
-
-    /// Only roots that issued some place are ever asked for.
-    fn enter_roots(&mut self, question: &Question) {
-        let rows = question.roots[..question.size].iter();
-        let mut roots = rows.fold(0, |all, row| all | row);
-        while roots != 0 {
-            let root = roots.trailing_zeros() as usize;
-            let deepest = usize::from(question.root_limits[root]);
-            self.above[deepest.min(question.size - 1)] |= 1 << root;
-            roots &= roots - 1;
-        }
-    }
+    free: u64,
+    standing: Standing,
 }
 
 pub fn walk(question: &Question) -> Answer {
-    let mut limits = Limits::NONE;
-    limits.fill(question);
-    // as wide as the rows that they meet: those of 16 bits take longer to load
-    let issuers = question.issuers.map(u32::from);
-    let mut rows = Rows::first(question.size, limits.above[0]);
-    let mut before = Depths::NONE;
+    let seats = Seats::of(question);
+    let issuers = question.issuers.map(u64::from);
+    let roots = question.roots.map(u64::from);
+    let mut here = Level {
+        free: (1 << question.size) - 1,
+        standing: Standing::begun(&seats),
+    };
+    let mut row: u64 = 1;
+    let mut ahead = [0; 16];
+    let mut levels = [here; 16];
     let mut path = [0; 16];
     let mut depth = 0;
     let mut steps = 0;
     loop {
-        if rows.ahead == 0 {
+        if row == 0 {
             if depth == 0 {
                 return Answer::without_path(1, steps);
             }
             depth -= 1;
-            rows = before.kept(depth);
+            row = ahead[depth];
+            here = levels[depth];
             continue;
         }
         if steps == question.budget {
             return Answer::without_path(2, steps);
         }
         steps += 1;
-        let place = rows.take();
+        let place = row.ilog2() as usize;
         path[depth] = place as u8;
-        let mut next = rows.past(place, issuers[place], limits.seats[depth]);
-        let roots = next.standing & question.roots[place];
+        row ^= 1 << place;
+        let free = here.free & !(1 << place);
+        let next = free & issuers[place];
+        let tops = here.standing.over(place) & roots[place];
         let length = depth + 1;
-        // deeper first, as in the library: with the roots looked at first a step takes nearly twice the time on x86-64
-        if next.ahead != 0 {
-            before.keep(depth, rows);
+        if next != 0 {
+            ahead[depth] = row;
+            levels[depth] = here;
+            let standing = here.standing.added(&seats, place);
+            here = Level { free, standing };
+            row = next;
             depth = length;
-            next.standing &= limits.above[depth];
-            rows = next;
         }
-        if roots != 0 {
-            let root = roots.trailing_zeros() as u8;
+        if tops != 0 {
+            let root = tops.trailing_zeros() as u8;
             return Answer::accepted(steps, root, &path[..length]);
         }
     }

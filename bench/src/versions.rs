@@ -3,7 +3,7 @@
 use crate::answer::Answer;
 use crate::question::Question;
 use crate::reader::Card;
-use crate::{depths, library, ordinary, packed, tuned};
+use crate::{depths, lean, library, ordinary, packed, tuned};
 
 /// The slots needed for a bundle of so many certificates.
 pub const SLOTS: [usize; 17] = [
@@ -49,6 +49,11 @@ pub const PACKED: Version = Version {
 pub const DEPTHS: Version = Version {
     name: "depths",
     search: |file, room| search(file, room, |question, _| depths::walk(question)),
+};
+
+pub const LEAN: Version = Version {
+    name: "lean",
+    search: |file, room| search(file, room, |question, _| lean::walk(question)),
 };
 
 /// A search that walks over what the reader without allocation has read.

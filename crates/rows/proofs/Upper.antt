@@ -1,5 +1,5 @@
 -- The highest place of a row, and the row of the places below a number.
--- `highest-some`, `highest-none`: what the highest place says of a row; `highest-place`: a row that is not 0 has one; `has-below`.
+-- `highest-has`, `highest-above`: what the highest place says of a row; `highest-place`: a row that is not 0 has one; `has-below`.
 -- What the code's words say of them: `highest-zero`, `highest-zeros`, `below-some`, `below-all`. Assumes nothing.
 use Prim.Native.Nat.{ℕ, zero, suc, _+_, _-_, _*_, _/_, _%_, _^_, _≤_, _<_}
 use mathlib.Core.Bool.{Bool, true, false, cond, _&&_, false≢true}
@@ -60,9 +60,6 @@ module _ (row : ℕ) where
 
   pub highest-above : highest row < 64 → (i : ℕ) → highest row < i → has i row ≡ false
   highest-above h i k = ⊎-elim (λ l. beyond i (λ m. l .above i k m)) (λ (q, n). absurd (omega arith)) cases
-
-  pub highest-none : 64 ≤ highest row → (i : ℕ) → has i row ≡ false
-  highest-none h i = ⊎-elim (λ l. absurd (omega (arith, l .within))) (λ (q, n). beyond i (λ m. n i m)) cases
 
   highest-is : (i : ℕ) → has i row ≡ true → ((j : ℕ) → i < j → has j row ≡ false) → i ≡ highest row
   highest-is i y none = ⊎-elim
