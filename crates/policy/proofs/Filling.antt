@@ -1,10 +1,11 @@
 -- Filling the seats: each is put in the row of its limit (`entering-starts`, `entering-turn`, `entering-ends`), then each row is handed on
 -- to the one before it (`handing-starts`, `handing-turn`, `handing-ends`); and the seats of both parts (`limited`, `seats-filled`); `second-lent`,
 -- `second-back` for lending the second. Assumes nothing.
-use Prim.Native.Nat.{ℕ, _+_, _-_, _≤_, _<_}
+use Prim.Native.Nat.{ℕ, _+_, _-_, _≤_, _<_, min}
 use mathlib.Core.Bool.{Bool, true, false, cond, not, _&&_, _||_, and-true, and-false, and-not-self, or-false, false≢true}
 use mathlib.Core.List.{List, [], _∷_, _++_}
 use mathlib.Core.Path.{_≡_, refl, sym, ap, _∙_}
+use native.Mathlib.Nat.{min-le-right}
 use native.Mathlib.Omega.{arith}
 use borrow.Author.Tests.{ltb-true, ltb-false, eqb-true, eqb-false, leb-true, leb-false, lt-ltb, le-ltb, le-leb, lt-leb, eq-eqb, ne-eqb}
 use lib.Dec.{eqb, leb, ltb}
@@ -16,7 +17,7 @@ use Rattle.rows.proofs.Listing.{getD-zeros}
 use Rattle.rows.proofs.Places.{has-none, has-joined, has-left, has-common, has-either, has-dropped, lowest-least}
 use Rattle.rows.proofs.Taking.{lowest-there}
 use Rattle.rows.proofs.Upper.{has-below}
-use Rattle.policy.specs.Filling.{lesser, Limited, Entered, Filled}
+use Rattle.policy.specs.Filling.{Limited, Entered, Filled}
 use Rattle.policy.specs.Judging.{stands}
 use Rattle.policy.specs.Standing.{Seated}
 use Rattle.policy.specs.declared.judged.Judged.{Judged}
@@ -27,7 +28,7 @@ use Rattle.policy.specs.declared.judged.Judged.{Judged}
 pub record Entering (last sound : ℕ) (limits : List ℕ) (rest : ℕ) (rows : List ℕ) : Type 0 where
   pub size : length rows ≡ bundleMost
   pub kept : (j : ℕ) → has j rest ≡ true → has j sound ≡ true
-  pub put : (n j : ℕ) → n < bundleMost → has j (getD rows n 0) ≡ has j sound && not (has j rest) && eqb (lesser (getD limits j 0) last) n
+  pub put : (n j : ℕ) → n < bundleMost → has j (getD rows n 0) ≡ has j sound && not (has j rest) && eqb (min (getD limits j 0) last) n
 
 module _ (last sound : ℕ) (limits : List ℕ) where
   pub entering-starts : (rows : List ℕ) → rows ≡ replicate bundleMost 0 → Entering last sound limits sound rows
@@ -54,15 +55,15 @@ module _ (last sound : ℕ) (limits : List ℕ) where
 
     module _ (i : ℕ) (first : i ≡ lowest rest) (place : i < 64) where
       abbrev row : ℕ
-      row = lesser (getD limits i 0) last
+      row = min (getD limits i 0) last
 
       -- those that are in their row, and i where it is to be
-      entered-more : (n j : ℕ) → has j sound && not (has j rest) && eqb (lesser (getD limits j 0) last) n || (eqb j i && eqb row n)
-          ≡ has j sound && not (has j (left rest (joined 0 i))) && eqb (lesser (getD limits j 0) last) n
+      entered-more : (n j : ℕ) → has j sound && not (has j rest) && eqb (min (getD limits j 0) last) n || (eqb j i && eqb row n)
+          ≡ has j sound && not (has j (left rest (joined 0 i))) && eqb (min (getD limits j 0) last) n
       entered-more n j = rw (has-dropped rest i place j) (go (eqb j i) refl)
         where
-          go : (q : Bool) → eqb j i ≡ q → has j sound && not (has j rest) && eqb (lesser (getD limits j 0) last) n || (q && eqb row n)
-              ≡ has j sound && not (has j rest && not q) && eqb (lesser (getD limits j 0) last) n
+          go : (q : Bool) → eqb j i ≡ q → has j sound && not (has j rest) && eqb (min (getD limits j 0) last) n || (q && eqb row n)
+              ≡ has j sound && not (has j rest && not q) && eqb (min (getD limits j 0) last) n
           go true e = let k : j ≡ i = eqb-true j i e in let left-there = lowest-there rest i first place in rw (k, left-there, m .kept i left-there)
           go false e = rw (and-true, or-false)
 
@@ -91,39 +92,14 @@ module _ (last sound : ℕ) (limits : List ℕ) where
 
 -- ---- each in the rows before it too
 
-pub lesser-left : (a b : ℕ) → a < b → a ≡ lesser a b
-unfolding lesser
-lesser-left a b h = rw (lt-ltb a b h)
-
-pub lesser-right : (a b : ℕ) → b ≤ a → b ≡ lesser a b
-unfolding lesser
-lesser-right a b h = rw (le-ltb a b h)
-
--- the lesser of two, by its tests
-lesser-up : (n a b : ℕ) → leb n (lesser a b) ≡ leb n b && leb n a
-lesser-up n a b = go (ltb a b) refl
+-- up to the lesser of two is up to both
+min-up : (n a b : ℕ) → leb n (min a b) ≡ leb n b && leb n a
+min-up n a b = go (leb n b) refl (leb n a) refl
   where
-    go : (t : Bool) → ltb a b ≡ t → leb n (lesser a b) ≡ leb n b && leb n a
-    go true e = let h = ltb-true a b e in rw (← lesser-left a b h) (less (leb n a) refl h)
-      where
-        less : (t : Bool) → leb n a ≡ t → a < b → t ≡ leb n b && t
-        less true f h = let k = leb-true n a f in rw (le-leb n b (omega arith))
-        less false f h = sym (and-false (leb n b))
-    go false e = let h = ltb-false a b e in rw (← lesser-right a b h) (more (leb n b) refl h)
-      where
-        more : (t : Bool) → leb n b ≡ t → b ≤ a → t ≡ t && leb n a
-        more true f h = let k = leb-true n b f in sym (le-leb n a (omega arith))
-        more false f h = refl
-
-lesser-most : (a b : ℕ) → lesser a b ≤ b
-lesser-most a b = leb-true (lesser a b) b (go (leb (lesser a b) b) (leb (lesser a b) a) (sym (lesser-up (lesser a b) a b) ∙ le-leb (lesser a b) (lesser a b) (omega arith)))
-  where
-    go : (t u : Bool) → t && u ≡ true → t ≡ true
-    go true u e = refl
-    go false u e = e
-
-pub lesser-below : (a b most : ℕ) → b < most → lesser a b < most
-lesser-below a b most h = let k = lesser-most a b in omega arith
+    go : (t : Bool) → leb n b ≡ t → (u : Bool) → leb n a ≡ u → leb n (min a b) ≡ t && u
+    go true e true f = le-leb n (min a b) (omega (arith, leb-true n b e, leb-true n a f))
+    go true e false f = lt-leb n (min a b) (omega (arith, leb-false n a f))
+    go false e u f = lt-leb n (min a b) (omega (arith, leb-false n b e))
 
 -- one whose row is m is in row n, where the rows from k on were handed what is past them
 unfoldable pub inRow : ℕ → ℕ → ℕ → Bool
@@ -166,7 +142,7 @@ pub record Handing (last : ℕ) (before : List ℕ) (k : ℕ) (rows : List ℕ) 
   pub size : length rows ≡ bundleMost
   pub within : k < bundleMost
   pub handed : (sound : ℕ) (limits : List ℕ) → Entered last sound limits before
-      → (n i : ℕ) → n < bundleMost → has i (getD rows n 0) ≡ has i sound && inRow k n (lesser (getD limits i 0) last)
+      → (n i : ℕ) → n < bundleMost → has i (getD rows n 0) ≡ has i sound && inRow k n (min (getD limits i 0) last)
 
 module _ (last : ℕ) (before : List ℕ) where
   pub handing-starts : length before ≡ bundleMost → last < bundleMost → Handing last before last before
@@ -174,7 +150,7 @@ module _ (last : ℕ) (before : List ℕ) where
       record {
         size = size;
         within = h;
-        handed = λ sound limits e n i k. e .put n i k ∙ ap (λ (b : Bool). has i sound && b) (in-last last n _ (lesser-most (getD limits i 0) last));
+        handed = λ sound limits e n i k. e .put n i k ∙ ap (λ (b : Bool). has i sound && b) (in-last last n _ (min-le-right (getD limits i 0) last));
       }
 
   module _ (k : ℕ) (rows : List ℕ) (m : Handing last before k rows) where
@@ -182,11 +158,11 @@ module _ (last : ℕ) (before : List ℕ) where
     handing-turn h = record { size = simp length-set (m .size); within = let w = m .within in omega arith; handed = handed }
       where
         handed : (sound : ℕ) (limits : List ℕ) → Entered last sound limits before → (n i : ℕ) → n < bundleMost
-            → has i (getD (set rows (k - 1) (either (getD rows (k - 1) 0) (getD rows k 0))) n 0) ≡ has i sound && inRow (k - 1) n (lesser (getD limits i 0) last)
+            → has i (getD (set rows (k - 1) (either (getD rows (k - 1) 0) (getD rows k 0))) n 0) ≡ has i sound && inRow (k - 1) n (min (getD limits i 0) last)
         handed sound limits e n i l = go (eqb n (k - 1)) refl
           where
             row : ℕ
-            row = lesser (getD limits i 0) last
+            row = min (getD limits i 0) last
 
             go : (b : Bool) → eqb n (k - 1) ≡ b → has i (getD (set rows (k - 1) (either (getD rows (k - 1) 0) (getD rows k 0))) n 0) ≡ has i sound && inRow (k - 1) n row
             go true f =
@@ -215,7 +191,7 @@ module _ (last : ℕ) (before : List ℕ) where
         record {
           size = m .size;
           may = λ n i l. m .handed sound limits e n i l
-              ∙ rw (z, le-leb 0 n (omega arith), lesser-up n (getD limits i 0) last) (turned (has i sound) (leb n last) (leb n (getD limits i 0)));
+              ∙ rw (z, le-leb 0 n (omega arith), min-up n (getD limits i 0) last) (turned (has i sound) (leb n last) (leb n (getD limits i 0)));
         }
       where
         turned : (s a b : Bool) → s && (a && b) ≡ a && (s && b)
@@ -234,12 +210,12 @@ limited sound n limits e h =
     }
 
 -- up to the lesser of a number and the last row is up to that number, for a row that there is
-up-to : (after n : ℕ) → n < bundleMost → leb n (lesser after (bundleMost - 1)) ≡ leb n after
-up-to after n h = lesser-up n after (bundleMost - 1) ∙ rw (le-leb n (bundleMost - 1) (omega arith))
+up-to : (after n : ℕ) → n < bundleMost → leb n (min after (bundleMost - 1)) ≡ leb n after
+up-to after n h = min-up n after (bundleMost - 1) ∙ rw (le-leb n (bundleMost - 1) (omega arith))
 
 module _ (j : Judged) (after : ℕ) (places roots : List ℕ) where
   abbrev last : ℕ
-  last = lesser after (bundleMost - 1)
+  last = min after (bundleMost - 1)
 
   pub seats-filled : Filled last (common (j .between .sound) (below bundleMost)) (j .between .limits) places
       → Filled last (common (j .above .sound) (below rootsMost)) (j .above .limits) roots → Seated j after (places ++ (roots ++ j .leaves ∷ []))

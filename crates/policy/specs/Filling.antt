@@ -1,9 +1,9 @@
 -- What filling the seats promises (src/seating.rt), of the places or of the roots alike. Assumes nothing.
-use Prim.Native.Nat.{ℕ, _≤_, _<_}
-use mathlib.Core.Bool.{false, cond, _&&_}
+use Prim.Native.Nat.{ℕ, _≤_, _<_, min}
+use mathlib.Core.Bool.{false, _&&_}
 use mathlib.Core.List.{List}
 use mathlib.Core.Path.{_≡_}
-use lib.Dec.{eqb, leb, ltb}
+use lib.Dec.{eqb, leb}
 use lib.ListN.{length, getD}
 use Rattle.places.specs.Limits.{bundleMost}
 use Rattle.rows.specs.Rows.{has}
@@ -14,13 +14,10 @@ pub record Limited (sound : ℕ) (limits : List ℕ) : Type 0 where
   pub few : length limits ≤ 64
   pub inside : (i : ℕ) → length limits ≤ i → has i sound ≡ false
 
-unfoldable pub lesser : ℕ → ℕ → ℕ
-lesser a b = cond (ltb a b) a b
-
 -- each is in the row of its limit, or in the last row where its limit is past it
 pub record Entered (last sound : ℕ) (limits rows : List ℕ) : Type 0 where
   pub size : length rows ≡ bundleMost
-  pub put : (n i : ℕ) → n < bundleMost → has i (getD rows n 0) ≡ has i sound && eqb (lesser (getD limits i 0) last) n
+  pub put : (n i : ℕ) → n < bundleMost → has i (getD rows n 0) ≡ has i sound && eqb (min (getD limits i 0) last) n
 
 -- row n, up to the last, has those that may stand with n certificates between them and the leaf
 pub record Filled (last sound : ℕ) (limits rows : List ℕ) : Type 0 where

@@ -10,10 +10,10 @@ use rows::with;
 use rows::without;
 ghost use mathlib.Core.List.{List};
 ghost use mathlib.Core.Path.{_≡_};
-ghost use Prim.Native.Nat.{ℕ, _<_};
+ghost use Prim.Native.Nat.{ℕ, _<_, min};
 ghost use lib.ListN.{length, replicate};
 ghost use Rattle.places.specs.Limits.{bundleMost};
-ghost use Rattle.policy.specs.Filling.{lesser, Limited, Entered, Filled};
+ghost use Rattle.policy.specs.Filling.{Limited, Entered, Filled};
 ghost use Rattle.policy.specs.Standing.{Seated};
 
 // Rows for each number of certificates between a seat and the leaf: the places of the bundle that may stand there, after those the roots
@@ -91,7 +91,7 @@ fn hand_on(rows: &mut [u64], last: usize)
 }
 
 fn lesser(a: usize, b: usize) -> usize
-    ensures { λ r. ⌜ r ≡ lesser a b ⌝ }
+    ensures { λ r. ⌜ r ≡ min a b ⌝ }
 {
     if a < b {
         return a;

@@ -8,7 +8,7 @@ use Rattle.places.specs.Limits.{bundleMost}
 use Rattle.rows.specs.Rows.{lowest, left}
 use Rattle.rows.proofs.Places.{lowest-least}
 use Rattle.rows.proofs.Taking.{lowest-grows}
-use Rattle.policy.proofs.Filling.{lesser-below, Entering, entering-starts, entering-turn, entering-ends}
+use Rattle.policy.proofs.Filling.{Entering, entering-starts, entering-turn, entering-ends}
 use borrow.Author.Needs.{needs}
 use Rattle.policy.proofs.seating.enter.Statement.{statement}
 use Rattle.policy.proofs.seating.enter.Tie as tie
@@ -42,7 +42,7 @@ lesser-requires c κs = search needs
 
 -- the row that is written to is there
 there : (c : tie.After-lesser Inv-loop μ-loop) → c .lesser .result < bundleMost
-there c = rw (c .lesser .ensures) (lesser-below _ _ _ (c .before .before .before .before .before .before .before .pre .0 .1))
+there c = omega (arith, c .lesser .ensures, c .before .before .before .before .before .before .before .pre .0 .1)
 
 mul-with : tie.Need-mul-with Inv-loop μ-loop
 mul-with c = omega (arith, there c)

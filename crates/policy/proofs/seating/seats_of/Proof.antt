@@ -3,7 +3,7 @@ use native.Mathlib.Omega.{arith}
 use mathlib.Core.Path.{refl}
 use lib.ListN.{length-map, length-append}
 use Rattle.places.specs.Limits.{rootsMost, bundleMost}
-use Rattle.policy.proofs.Filling.{lesser-below, limited, seats-filled, second-lent, second-back}
+use Rattle.policy.proofs.Filling.{limited, seats-filled, second-lent, second-back}
 use borrow.Author.Needs.{needs}
 use Rattle.policy.proofs.seating.seats_of.Statement.{statement}
 use Rattle.policy.proofs.seating.seats_of.Tie as tie
@@ -42,7 +42,7 @@ fill-requires : tie.Need-fill-requires
 fill-requires c κs =
     let l = c .before .before .before .before .before .before in
     let places = simp length-map at (l .before .good .0 .1 .1 .1 .0 .1 .1 .1 .0 .1 .0 .1) in (
-      (refl, rw (l .lesser .ensures) (lesser-below _ _ _ (omega arith))),
+      (refl, omega (arith, l .lesser .ensures)),
       rw (c .before .shared .ensures, c .before .before .below .ensures) (limited _ bundleMost _ places (omega arith)),
     )
 
@@ -72,7 +72,7 @@ fill-requires-2 c κs =
     let f = c .before .before .before .before .before in
     let l = f .before .before .before .before .before .before .before in
     let roots = simp length-map at (l .before .good .0 .1 .1 .1 .1 .0 .1 .1 .1 .0 .1 .0 .1) in (
-      (second-lent (f .fill .last .0) (f .fill .ensures .size) _, rw (l .lesser .ensures) (lesser-below _ _ _ (omega arith))),
+      (second-lent (f .fill .last .0) (f .fill .ensures .size) _, omega (arith, l .lesser .ensures)),
       rw (c .before .shared2 .ensures, c .before .before .below2 .ensures) (limited _ rootsMost _ roots (omega arith)),
     )
 
