@@ -1,9 +1,9 @@
 -- `enter` puts each of a row in the row of its limit. The invariant: i is the lowest of the rest, and those that are not among the rest are
 -- in their row. The measure: i grows. Assumes nothing.
 use native.Mathlib.Omega.{arith}
-use Prim.Native.Nat.{_-_, _<_}
+use Prim.Native.Nat.{_-_, _<_, min}
 use mathlib.Core.Path.{_≡_, sym, ap, _∙_}
-use lib.ListN.{length}
+use lib.ListN.{length, getD}
 use Rattle.places.specs.Limits.{bundleMost}
 use Rattle.rows.specs.Rows.{lowest, left}
 use Rattle.rows.proofs.Places.{lowest-least}
@@ -82,10 +82,12 @@ loop-again c =
     let r = w .before .before in
     let t = r .before in
     let l = t .before .before .loop in
-    let few = t .before .before .before .before .before .before .pre .1 .few in
+    let start = t .before .before .before .before .before .before in
+    let few = start .pre .1 .few in
     let place : l .i < 64 = omega arith in
+    let row : r .lesser .result ≡ min (getD (start .args .limits .now) (l .i) 0) (start .args .last) = r .lesser .ensures in
     let rest = c .before .without .ensures ∙ ap (left (l .rest)) (c .before .before .with2 .ensures) in
-    (c .lowest2 .ensures, rw (rest, w .with .ensures, r .lesser .ensures) (entering-turn _ _ _ _ _ (l .inv .1) _ (l .inv .0) place (rw (← r .lesser .ensures) (there r))))
+    (c .lowest2 .ensures, rw (rest, w .with .ensures, row) (entering-turn _ _ _ _ _ (l .inv .1) _ (l .inv .0) place (rw (← row) (there r))))
 
 same-length : tie.Need-same-length Inv-loop μ-loop
 same-length c =
