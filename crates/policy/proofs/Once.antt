@@ -1,7 +1,7 @@
 -- What the tests of one certificate come to: what is asked of it between leaf and root, as the root and as the leaf, by the first test
 -- that fails; and the facts of a card by their parts (`judged-is`). Assumes nothing.
 use Prim.Native.Nat.{ℕ}
-use mathlib.Core.Bool.{true, false, cond, _&&_, and-true, and-false}
+use mathlib.Core.Bool.{true, false, _&&_, and-true, and-false}
 use mathlib.Core.List.{List}
 use mathlib.Core.Path.{_≡_}
 use Rattle.fields.specs.Fields.{bytesOf}
@@ -10,9 +10,7 @@ use Rattle.record.specs.Parts.{headOf, extensionsOf}
 use Rattle.record.specs.declared.head.Head.{Head}
 use Rattle.extensions.specs.declared.Extensions.{Extensions}
 use Rattle.record.specs.declared.Record.{Record}
-use Rattle.certificates.specs.Certificates.{recordOf}
 use Rattle.card.specs.declared.Card.{Card}
-use Rattle.rows.specs.Rows.{joined}
 use Rattle.issuing.specs.Records.{bundleRows, rootRows, issuersOf}
 use Rattle.rules.specs.Rules.{inDate, wellFormed, handled, authority}
 use Rattle.rules.specs.Records.{forServersAt, forHostAt}
@@ -75,12 +73,11 @@ module _ (s : List ℕ) (time : Time) (host : List ℕ) (r : Record) where
 
 -- ---- the facts
 
-pub judged-is : (s : List ℕ) (time : Time) (c : Card) {bundle roots limits tops : List ℕ} {asked sound above leaves : ℕ} {host : List ℕ} {leaf : Record}
+pub judged-is : (s : List ℕ) (time : Time) (c : Card) {bundle roots limits tops : List ℕ} {asked sound above leaves : ℕ} {host : List ℕ}
     → bundle ≡ bundleRows s (c .bundle) (c .verdicts) → roots ≡ rootRows s (c .roots) (c .bundle) (c .verdicts)
     → sound ≡ soundPlaces s time (c .bundle) → limits ≡ placeLimits s (c .bundle)
     → asked ≡ issuersOf roots → above ≡ soundRoots s time asked (c .roots) → tops ≡ rootLimits s asked (c .roots)
-    → host ≡ bytesOf (c .task .host .name) s → leaf ≡ recordOf (c .bundle .count) (c .bundle .records) 0
-    → leaves ≡ cond (leafSoundAt s time host leaf) (joined 0 0) 0
+    → host ≡ bytesOf (c .task .host .name) s → leaves ≡ soundLeaves s time host (c .bundle)
     → _≡_ {A = Judged}
     (record {
       issuing = record { bundle = bundle; roots = roots };
@@ -89,5 +86,5 @@ pub judged-is : (s : List ℕ) (time : Time) (c : Card) {bundle roots limits top
       leaves = leaves;
     })
     (judgedOf s time c)
-unfolding judgedOf soundLeaves
-judged-is s time c b r p l a u t h f q = rw (q, f, h, t, u, a, l, p, r, b)
+unfolding judgedOf
+judged-is s time c b r p l a u t h q = rw (q, h, t, u, a, l, p, r, b)

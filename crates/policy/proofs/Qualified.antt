@@ -1,12 +1,11 @@
 -- What is judged of a card is what the content says, at any time: who issued whom in the bundle (`issuer-judged`); a root by which a list of places
--- qualifies, as its certificates were judged, is one by which it qualifies, where it begins at place 0 (`root-judged`), and is there
--- (`qualifies-there`). Assumes nothing.
-use Prim.Native.Nat.{ℕ, zero, suc, _<_, _≤_}
+-- qualifies, as its certificates were judged, is one by which it qualifies (`root-judged`), and is there (`qualifies-there`). Assumes nothing.
+use Prim.Native.Nat.{ℕ, _<_, _≤_}
 use mathlib.Core.Path.{_≡_, refl, sym, ap, _∙_}
-use mathlib.Core.Bool.{Bool, true, false, _&&_, and-true, and-false, false≢true}
+use mathlib.Core.Bool.{Bool, true, false, _&&_, false≢true}
 use mathlib.Core.List.{List, [], _∷_, map, List·Memᴰ·head as here, List·Memᴰ·tail as there}
 use native.Mathlib.Omega.{arith}
-use lib.Dec.{eqb, ltb, eqb·suc-zero}
+use lib.Dec.{ltb}
 use lib.ListN.{length, length-map, getD}
 use borrow.Author.Tests.{lt-ltb, ltb-true}
 use Rattle.places.specs.Limits.{bundleMost}
@@ -58,9 +57,12 @@ module _ (s : List ℕ) (c : Card) (e : ℕ) (t : CardRead s c e) (time : Time) 
       by-test true k = let q = ltb-true r (length (content .roots)) k in let n = roots-counted s c e t in omega arith
       by-test false k = absurd (false≢true (sym (no-issuer content (root r) j k) ∙ h))
 
-  module _ (l : List ℕ) (inside : (i : ℕ) → i among (0 ∷ l) → i < c .bundle .count) (few : length l ≤ 255) where
+  module _ (p : ℕ) (l : List ℕ) (inside : (i : ℕ) → i among (p ∷ l) → i < c .bundle .count) (few : length l ≤ 255) where
     abbrev end : ℕ
-    end = last 0 l
+    end = last p l
+
+    abbrev leaf : Bool
+    leaf = leafSound time (content .host) (place p)
 
     abbrev between : Bool
     between = allStand (soundPlaces s time (c .bundle)) (placeLimits s (c .bundle)) 0 l
@@ -68,38 +70,26 @@ module _ (s : List ℕ) (c : Card) (e : ℕ) (t : CardRead s c e) (time : Time) 
     abbrev above : ℕ → Bool
     above r = stands (soundRoots s time (issuersOf rows) (c .roots)) (rootLimits s (issuersOf rows) (c .roots)) (length l) r
 
-    -- from place 0 on
-    first-judged : (r : ℕ) → qualifiesBy (judgedOf s time c) (0 ∷ l) r ≡ qualifies content time (0 ∷ l) r
+    -- a root by which a list of places is judged right is one by which it qualifies
+    pub root-judged : (r : ℕ) → qualifiesBy (judgedOf s time c) (p ∷ l) r ≡ qualifies content time (p ∷ l) r
     unfolding contentOf bySeat qualifiesBy judgedOf
-    first-judged r =
-        let low : end < bundleMost = let a = inside end (last-among 0 l) in let b = count-few bundleMost s _ _ _ (t .bundle) in omega arith in
-        rw (lt-ltb end bundleMost low, leaves-read s c e t time (inside 0 (here refl)) 0, and-true)
+    root-judged r =
+        let low : end < bundleMost = let a = inside end (last-among p l) in let b = count-few bundleMost s _ _ _ (t .bundle) in omega arith in
+        rw (lt-ltb end bundleMost low, leaves-read s c e t time p (inside p (here refl)))
         (ap (λ b. leaf && between && (b && above r)) (root-row-agrees s c e t r end) ∙ by-issuer (issued content (root r) end) refl)
       where
-        leaf : Bool
-        leaf = leafSound time (content .host) (place 0)
-
         by-issuer : (b : Bool) → issued content (root r) end ≡ b
-            → leaf && between && (b && above r) ≡ (b && policy time (content .host) (chainOf content 0 l r))
+            → leaf && between && (b && above r) ≡ (b && policy time (content .host) (chainOf content p l r))
         by-issuer false k = and-no (leaf && between) false refl
         by-issuer true k =
             let asked = issuer-among rows end r (root-row-agrees s c e t r end ∙ k) in
             rw (
               all-stand-read s c e t time 0 l (λ i m. inside i (there m)) (omega arith),
               top-read s c e t time (issuersOf rows) (length l) r (issuer-there r end k) asked few,
-              policy-by-seat time (content .host) (place 0) (map place l) (top r),
+              policy-by-seat time (content .host) (place p) (map place l) (top r),
               length-map,
             )
             refl
-
-  -- a root by which a list of places is judged right is one by which it qualifies, where it begins at place 0: no other was asked as the leaf
-  pub root-judged : (p : ℕ) (l : List ℕ) → ((i : ℕ) → i among (p ∷ l) → i < c .bundle .count) → length l ≤ 255
-      → (r : ℕ) → qualifiesBy (judgedOf s time c) (p ∷ l) r ≡ (eqb p 0 && qualifies content time (p ∷ l) r)
-  unfolding qualifiesBy judgedOf
-  root-judged zero l inside few r = first-judged l inside few r
-  root-judged (suc p) l inside few r =
-      let some : 0 < c .bundle .count = let a = inside (suc p) (here refl) in omega arith in
-      rw (leaves-read s c e t time some (suc p), eqb·suc-zero, and-false, and-false)
 
   -- a root by which a path qualifies is there
   pub qualifies-there : (p : List ℕ) (r : ℕ) → c .roots .count ≤ r → qualifies content time p r ≡ false

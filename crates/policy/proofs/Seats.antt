@@ -5,7 +5,7 @@ use mathlib.Core.Path.{_≡_, refl, sym, ap, ap₂, _∙_}
 use mathlib.Core.Bool.{Bool, true, cond, _&&_}
 use mathlib.Core.List.{List, [], _∷_, map, List·Memᴰ·head as here, List·Memᴰ·tail as there}
 use native.Mathlib.Omega.{arith}
-use lib.Dec.{eqb, ltb}
+use lib.Dec.{ltb}
 use lib.ListN.{length, getD}
 use borrow.Author.Tests.{lt-ltb}
 use Rattle.places.specs.Limits.{rootsMost, bundleMost}
@@ -17,8 +17,8 @@ use Rattle.card.specs.Content.{contentOf, root, bundled, certificateAt}
 use Rattle.card.specs.declared.Card.{Card}
 use Rattle.card.proofs.Sections.{CardRead}
 use Rattle.card.proofs.Standing.{bundled-stands}
-use Rattle.rows.specs.Rows.{has, joined, rowOf, listing}
-use Rattle.rows.proofs.Places.{has-none, has-joined, has-row}
+use Rattle.rows.specs.Rows.{has, rowOf, listing}
+use Rattle.rows.proofs.Places.{has-row}
 use Rattle.rows.proofs.Listing.{listing-there}
 use Rattle.issuing.proofs.Agrees.{size-is, root-is, bundled-is}
 use Rattle.order.specs.Listing.{_among_}
@@ -30,7 +30,6 @@ use Rattle.rules.proofs.Limits.{limit-allows}
 use Rattle.policy.specs.Sound.{betweenSound, topSound, leafSoundAt, placeOf, rootOf, soundPlaces, placeLimits, soundRoots, rootLimits, soundLeaves}
 use Rattle.policy.specs.Judging.{stands, allStand}
 use Rattle.policy.proofs.Chains.{allBetween, leafSound}
-use Rattle.policy.proofs.Qualifying.{has-where}
 
 -- one of n, which are no more than most, in their row and in their list
 module _ (most n : ℕ) (few : n ≤ most) (i : ℕ) (h : i < n) where
@@ -97,16 +96,16 @@ module _ (s : List ℕ) (c : Card) (e : ℕ) (t : CardRead s c e) (time : Time) 
 
   -- ---- the leaf
 
-  leaf-read : 0 < c .bundle .count → leafSoundAt s time (contentOf c s .host) (recordOf (c .bundle .count) (c .bundle .records) 0)
-      ≡ leafSound time (contentOf c s .host) (place 0)
+  leaf-read : (i : ℕ) → i < c .bundle .count → leafSoundAt s time (contentOf c s .host) (recordOf (c .bundle .count) (c .bundle .records) i)
+      ≡ leafSound time (contentOf c s .host) (place i)
   unfolding leafSoundAt leafSound
-  leaf-read h =
-      let r = bundled-stands s c e t 0 h in
-      rw (for-servers-read s _ _ (r .read), for-host-read s _ _ (r .read) (contentOf c s .host), bundled-is s c e t 0 h)
+  leaf-read i h =
+      let r = bundled-stands s c e t i h in
+      rw (for-servers-read s _ _ (r .read), for-host-read s _ _ (r .read) (contentOf c s .host), bundled-is s c e t i h)
 
-  -- as the leaf place 0 alone was asked
-  pub leaves-read : 0 < c .bundle .count → (i : ℕ) → has i (soundLeaves s time c) ≡ leafSound time (contentOf c s .host) (place 0) && eqb i 0
+  pub leaves-read : (i : ℕ) → i < c .bundle .count
+      → has i (soundLeaves s time (bytesOf (c .task .host .name) s) (c .bundle)) ≡ leafSound time (contentOf c s .host) (place i)
   unfolding soundLeaves contentOf
-  leaves-read h i =
-      has-where (leafSoundAt s time (bytesOf (c .task .host .name) s) (recordOf (c .bundle .count) (c .bundle .records) 0)) i (joined 0 0)
-      ∙ rw (leaf-read h, has-joined i 0 0, has-none i)
+  leaves-read i h =
+      let few = bundle-most in
+      in-row bundleMost _ few i h (λ j. leafSoundAt s time (bytesOf (c .task .host .name) s) (recordOf (c .bundle .count) (c .bundle .records) j)) (omega arith) ∙ leaf-read i h

@@ -13,7 +13,7 @@ use Rattle.certificates.specs.Certificates.{recordOf, sizeOf}
 use Rattle.certificates.specs.declared.roots.Roots.{Roots}
 use Rattle.certificates.specs.declared.bundle.Bundle.{Bundle}
 use Rattle.card.specs.declared.Card.{Card}
-use Rattle.rows.specs.Rows.{has, joined, rowOf, listing}
+use Rattle.rows.specs.Rows.{has, rowOf, listing}
 use Rattle.issuing.specs.Records.{bundleRows, rootRows, issuersOf}
 use Rattle.rules.specs.Rules.{inDate, wellFormed, handled, authority}
 use Rattle.rules.specs.Limits.{limitOf}
@@ -59,10 +59,8 @@ soundRoots s time asked r = rowOf (λ i. has i asked && topSound time (rootOf s 
 unfoldable pub rootLimits : List ℕ → ℕ → Roots → List ℕ
 rootLimits s asked r = listing rootsMost (sizeOf rootsMost (r .count)) (λ i. cond (has i asked) (limitOf (rootOf s r i)) 0)
 
--- as the leaf place 0 alone is asked, since every path begins there
-unfoldable pub soundLeaves : List ℕ → Time → Card → ℕ
-soundLeaves s time c =
-    cond (leafSoundAt s time (bytesOf (c .task .host .name) s) (recordOf (c .bundle .count) (c .bundle .records) 0)) (joined 0 0) 0
+unfoldable pub soundLeaves : List ℕ → Time → List ℕ → Bundle → ℕ
+soundLeaves s time host b = rowOf (λ i. leafSoundAt s time host (recordOf (b .count) (b .records) i)) (sizeOf bundleMost (b .count))
 
 -- ---- the facts
 
@@ -77,7 +75,7 @@ judgedOf s time c =
       issuing = record { bundle = bundleRows s (c .bundle) (c .verdicts); roots = rootRows s (c .roots) (c .bundle) (c .verdicts) };
       between = record { sound = soundPlaces s time (c .bundle); limits = placeLimits s (c .bundle) };
       above = record { sound = soundRoots s time (rootIssuers s c) (c .roots); limits = rootLimits s (rootIssuers s c) (c .roots) };
-      leaves = soundLeaves s time c;
+      leaves = soundLeaves s time (bytesOf (c .task .host .name) s) (c .bundle);
     }
 
 -- what stands where no card was read

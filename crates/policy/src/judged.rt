@@ -25,12 +25,11 @@ use rules::well_formed;
 ghost use mathlib.Core.List.{List};
 ghost use mathlib.Core.Path.{_≡_};
 ghost use Prim.Native.Nat.{ℕ};
-ghost use mathlib.Core.Bool.{cond, _&&_};
+ghost use mathlib.Core.Bool.{_&&_};
 ghost use Rattle.record.specs.Certificate.{certificateBy};
 ghost use Rattle.record.specs.declared.Record.{Record};
-ghost use Rattle.rows.specs.Rows.{joined};
 ghost use Rattle.rules.specs.Records.{forServersAt, forHostAt};
-ghost use Rattle.policy.specs.Sound.{leafSoundAt, betweenSound, topSound, soundPlaces, placeLimits, soundRoots, rootLimits, judgedOf, fresh-judged};
+ghost use Rattle.policy.specs.Sound.{leafSoundAt, betweenSound, topSound, soundPlaces, placeLimits, soundRoots, rootLimits, soundLeaves, judgedOf, fresh-judged};
 
 // The places of the bundle that may stand between leaf and root, and for each how many certificates its path length lets stand
 // between it and the leaf.
@@ -84,12 +83,7 @@ pub fn judge(file: &[u8], time: Time, card: Card) -> Judged
     let by_roots = issuing.roots;
     let between = places_between(file, time, card.bundle);
     let above = roots_above(file, time, issuers_of(by_roots), card.roots);
-    let leaves = leaves_in(
-        file,
-        time,
-        part(file, card.task.host.name),
-        card.bundle.record(BundlePlace(0)),
-    );
+    let leaves = leaves_in(file, time, part(file, card.task.host.name), card.bundle);
     Judged {
         issuing,
         between,
@@ -98,14 +92,20 @@ pub fn judge(file: &[u8], time: Time, card: Card) -> Judged
     }
 }
 
-// The places that are sound as the leaf: place 0 alone is asked, since every path begins there.
-fn leaves_in(file: &[u8], time: Time, host: &[u8], leaf: Record) -> u64
-    ensures { λ r. ⌜ r ≡ cond (leafSoundAt (now (file .entry)) time (now (host .entry)) leaf) (joined 0 0) 0 ⌝ }
+// The places that are sound as the leaf.
+fn leaves_in(file: &[u8], time: Time, host: &[u8], bundle: Bundle) -> u64
+    ensures { λ r. ⌜ r ≡ soundLeaves (now (file .entry)) time (now (host .entry)) bundle ⌝ }
 {
-    if leaf_sound(file, time, host, leaf) {
-        return with(0, 0);
+    let n = bundle.size();
+    let mut leaves: u64 = 0;
+    let mut i: u8 = 0;
+    while i < n {
+        if leaf_sound(file, time, host, bundle.record(BundlePlace(i))) {
+            leaves = with(leaves, i);
+        }
+        i += 1;
     }
-    0
+    leaves
 }
 
 // All that is asked of the leaf.

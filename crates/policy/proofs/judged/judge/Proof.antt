@@ -19,16 +19,12 @@ roots-above-requires c κs = search needs
 part-requires : tie.Need-part-requires
 part-requires c κs = search needs
 
-record-requires : tie.Need-record-requires
-record-requires c κs = search needs
-
 leaves-in-requires : tie.Need-leaves-in-requires
 leaves-in-requires c κs = search needs
 
 returns : tie.Need-returns
 returns c =
-    let r = c .before in
-    let p = r .before in
+    let p = c .before in
     let above = p .before in
     let asked = above .before in
     let b = asked .before in
@@ -36,7 +32,7 @@ returns c =
     let issued = i .who-issued .ensures in
     let a = i .before .before .args in
     judged-is (a .file .now) (a .time) (a .card) (issued .0) (issued .1) (b .places-between .ensures .0) (b .places-between .ensures .1) (asked .issuers-of .ensures)
-    (above .roots-above .ensures .0) (above .roots-above .ensures .1) (p .part .ensures) (r .«record» .ensures) (c .leaves-in .ensures)
+    (above .roots-above .ensures .0) (above .roots-above .ensures .1) (p .part .ensures) (c .leaves-in .ensures)
 
 pub judge-spec : {M : Type 1} → statement M
 judge-spec =
@@ -47,6 +43,5 @@ judge-spec =
     issuers-of-requires
     roots-above-requires
     part-requires
-    record-requires
     leaves-in-requires
     returns)
