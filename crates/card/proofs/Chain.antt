@@ -13,11 +13,12 @@ use Rattle.fields.proofs.Held.{as-told}
 use Rattle.certificates.specs.Certificates.{rootsP, bundleP}
 use Rattle.certificates.specs.declared.roots.Roots.{Roots}
 use Rattle.certificates.specs.declared.bundle.Bundle.{Bundle}
-use Rattle.verdicts.specs.Verdicts.{verdictsP}
+use Rattle.verdicts.specs.Grid.{gridP}
 use Rattle.verdicts.specs.declared.Verdicts.{Verdicts}
-use Rattle.task.specs.Task.{taskP}
+use Rattle.task.specs.Placed.{taskP}
 use Rattle.task.specs.declared.Task.{Task}
-use Rattle.card.specs.Card.{fileMost, editionP, cardP, fileP}
+use Rattle.card.specs.Card.{cardP, fileP}
+use Rattle.card.specs.Content.{fileMost, editionP}
 use Rattle.card.specs.declared.Card.{Card}
 
 -- what comes after a section, and after that, sees the value that was held
@@ -65,7 +66,7 @@ module _ (s : List ℕ) where
   with-verdicts r b v e = after (taskP s e) (with-task r b v)
 
   abbrev with-bundle : Roots → Bundle → ℕ → Parsed Card
-  with-bundle r b e = after (verdictsP (r .count) (b .count) s e) (with-verdicts r b)
+  with-bundle r b e = after (gridP (r .count) (b .count) s e) (with-verdicts r b)
 
   abbrev with-roots : Roots → ℕ → Parsed Card
   with-roots r e = after (bundleP s e) (with-bundle r)
@@ -85,7 +86,7 @@ module _ (s : List ℕ) (begun after-roots after-bundle after-verdicts after-tas
     pub chained : passed begun ≡ passing (cond (leb (length s) fileMost) (editionP s 0) (stop 5))
         → held after-roots r ≡ after (passed begun) (λ _ e. rootsP s e)
         → held after-bundle b ≡ after (passed after-roots) (λ _ e. bundleP s e)
-        → held after-verdicts v ≡ after (passed after-bundle) (λ _ e. verdictsP (r .count) (b .count) s e)
+        → held after-verdicts v ≡ after (passed after-bundle) (λ _ e. gridP (r .count) (b .count) s e)
         → held after-task t ≡ after (passed after-verdicts) (λ _ e. taskP s e)
         → passed end ≡ after (passed after-task) (λ _ e. cond (ltb e (length s)) (stop 9) (got tt e))
         → held end whole-card ≡ fileP s
@@ -95,7 +96,7 @@ module _ (s : List ℕ) (begun after-roots after-bundle after-verdicts after-tas
         ∙ ap (λ x. after x (λ _ e. got whole-card e)) over
         ∙ end-seen whole-card (passed after-task) (length s)
         ∙ sym (next-section (with-task s r b v) (ended s) after-verdicts after-task t (taskP s) task)
-        ∙ sym (next-section (with-verdicts s r b) (ended s) after-bundle after-verdicts v (verdictsP (r .count) (b .count) s) verdicts)
+        ∙ sym (next-section (with-verdicts s r b) (ended s) after-bundle after-verdicts v (gridP (r .count) (b .count) s) verdicts)
         ∙ sym (next-section (with-bundle s r) (ended s) after-roots after-bundle b (bundleP s) bundle)
         ∙ sym (next-section (with-roots s) (ended s) begun after-roots r (rootsP s) roots)
         ∙ ap (λ x. after x (λ _ e. after (with-edition s e) (ended s))) edition

@@ -5,7 +5,8 @@ use mathlib.Core.List.{[]}
 use native.Mathlib.Omega.{arith}
 use Rattle.fields.specs.Fields.{whole, countP, byteP}
 use Rattle.fields.specs.declared.fault.Fault.the-variants.{CutShort}
-use Rattle.card.specs.Card.{editionP, cardP, fileP}
+use Rattle.card.specs.Card.{cardP, fileP}
+use Rattle.card.specs.Content.{editionP}
 use Rattle.card.specs.Answers.{told, answer}
 use Rattle.card.specs.declared.Card.{Card}
 use Rattle.card.specs.declared.Outcome.the-variants.{Stop}

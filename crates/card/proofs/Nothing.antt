@@ -6,9 +6,9 @@ use Rattle.record.specs.Fresh.{fresh}
 use Rattle.certificates.specs.declared.roots.Roots.{Roots}
 use Rattle.certificates.specs.declared.bundle.Bundle.{Bundle}
 use Rattle.certificates.proofs.Nothing.{roots-fresh, bundle-fresh}
-use Rattle.verdicts.specs.Verdicts.{fresh-verdicts}
+use Rattle.verdicts.specs.Grid.{fresh-verdicts}
 use Rattle.verdicts.specs.declared.Verdicts.{Verdicts}
-use Rattle.task.specs.Task.{fresh-task}
+use Rattle.task.specs.Placed.{fresh-task}
 use Rattle.task.specs.declared.Task.{Task}
 use Rattle.card.specs.Card.{fresh-card}
 

@@ -14,12 +14,13 @@ use Rattle.certificates.specs.Certificates.{rootsP, bundleP}
 use Rattle.certificates.specs.declared.roots.Roots.{Roots}
 use Rattle.certificates.specs.declared.bundle.Bundle.{Bundle}
 use Rattle.certificates.proofs.Standing.{RecordsRead, roots-read, bundle-read}
-use Rattle.verdicts.specs.Verdicts.{verdictsP}
+use Rattle.verdicts.specs.Grid.{gridP}
 use Rattle.verdicts.specs.declared.Verdicts.{Verdicts}
 use Rattle.verdicts.proofs.Rows.{RowsRead, rows-read}
-use Rattle.task.specs.Task.{taskP}
+use Rattle.task.specs.Placed.{taskP}
 use Rattle.task.proofs.Hosts.{HostRead, host-read, host-ends}
-use Rattle.card.specs.Card.{fileMost, editionP, cardP, fileP}
+use Rattle.card.specs.Card.{cardP, fileP}
+use Rattle.card.specs.Content.{fileMost, editionP}
 use Rattle.card.specs.declared.Card.{Card}
 
 pub record CardRead (s : List ℕ) (c : Card) (e : ℕ) : Type 0 where
@@ -62,7 +63,7 @@ module _ (s : List ℕ) (few : length s ≤ fileMost) where
       let edition = after-got (editionP s at) _ h in
       let roots = after-got (rootsP s (edition .place)) _ (edition .next) in
       let bundle = after-got (bundleP s (roots .place)) _ (roots .next) in
-      let verdicts = after-got (verdictsP (roots .value .count) (bundle .value .count) s (bundle .place)) _ (bundle .next) in
+      let verdicts = after-got (gridP (roots .value .count) (bundle .value .count) s (bundle .place)) _ (bundle .next) in
       task-read (roots .value) (bundle .value) (verdicts .value) (roots .place) (bundle .place) (verdicts .place)
       (roots-read s (edition .place) (roots .value) (roots .place) (roots .first))
       (bundle-read s (roots .place) (bundle .value) (bundle .place) (bundle .first))

@@ -9,9 +9,10 @@ use native.Mathlib.Nat.{suc-mul, mul-le-mul-right}
 use lib.Dec.{eqb, ltb}
 use lib.ListN.{length, getD}
 use borrow.Author.Tests.{ltb-true}
-use Rattle.verdicts.specs.Verdicts.{signedAt, rootSigned, bundleSigned}
+use Rattle.verdicts.specs.Grid.{signedAt, rootSigned, bundleSigned}
 use Rattle.verdicts.proofs.Rows.{verdict-byte}
-use Rattle.card.specs.Content.{contentOf, root, bundled, signed}
+use Rattle.card.specs.Content.{root, bundled, signed}
+use Rattle.card.specs.Parts.{contentOf}
 use Rattle.card.specs.declared.Card.{Card}
 use Rattle.card.proofs.Sections.{CardRead}
 use Rattle.card.proofs.Standing.{roots-counted, bundle-counted, verdicts-are}

@@ -10,12 +10,13 @@ use lib.ListN.{length, getD, take, length-take, length-map, List·getD-eq-defaul
 use lib.Seq.{length-take-le, getD-take}
 use borrow.Author.Tests.{ltb-true, ltb-false}
 use Rattle.places.specs.Limits.{rootsMost, bundleMost}
-use Rattle.record.specs.Certificate.{certificateOf, listOf}
+use Rattle.lists.specs.Rows.{listOf}
+use Rattle.record.specs.Parts.{certificateOf}
 use Rattle.record.specs.Fresh.{fresh}
 use Rattle.record.specs.declared.Record.{Record}
 use Rattle.certificates.specs.Certificates.{recordOf}
 use Rattle.certificates.proofs.Standing.{RecordsRead, Stands, records-length, count-few, record-stands}
-use Rattle.card.specs.Content.{certificatesOf, contentOf}
+use Rattle.card.specs.Parts.{certificatesOf, contentOf}
 use Rattle.card.specs.declared.Card.{Card}
 use Rattle.card.proofs.Sections.{CardRead}
 

@@ -8,15 +8,22 @@ use native.Mathlib.Omega.{arith}
 use lib.Dec.{eqb, leb, ltb}
 use lib.ListN.{length, getD}
 use Rattle.places.specs.Limits.{rootsMost, bundleMost}
-use Rattle.fields.specs.Fields.{Parsed, got, stop, after, countP, spanP, stringP, bigP, many, countedP, whole, byteP}
+use Rattle.fields.specs.Fields.{Parsed, got, stop, after, countP, bytesP, stringP, bigP, many, countedP, whole, byteP}
+use Rattle.fields.specs.Spans.{spanP}
 use Rattle.names.specs.Names.{oidMost, valueMost, rdnMost, nameMost, attrP, rdnP, nameP}
-use Rattle.lists.specs.Lists.{usageMost, usagesMost, dnsNameMost, dnsNamesMost, usageP, usagesP, dnsNameP, dnsNamesP, rowP}
-use Rattle.extensions.specs.Extensions.{keyIdMost, serialMost, flag, optionP, keyIdsP, pathLengthP, extensionsP}
-use Rattle.record.specs.Record.{algorithmMost, paired, flagsP, datesP, headP, stringsP, namesP, recordP}
+use Rattle.lists.specs.Lists.{usageMost, usagesMost, dnsNameMost, dnsNamesMost, usageP, dnsNameP}
+use Rattle.lists.specs.Rows.{usagesP, dnsNamesP, rowP}
+use Rattle.extensions.specs.Extensions.{spanIfP, keyIdsP, pathLengthP, extensionsP}
+use Rattle.extensions.specs.Flags.{keyIdMost, serialMost, flag}
+use Rattle.record.specs.Record.{openingP, datesP, headP, stringsP, namesP, recordP}
+use Rattle.record.specs.Certificate.{algorithmMost, paired, flagsP}
 use Rattle.certificates.specs.Certificates.{rootsP, bundleP}
-use Rattle.verdicts.specs.Verdicts.{verdictP, verdictsP}
-use Rattle.task.specs.Task.{hostMost, timesP, purposeP, taskP}
-use Rattle.card.specs.Card.{fileMost, editionP, cardP, fileP}
+use Rattle.verdicts.specs.Verdicts.{verdictP}
+use Rattle.verdicts.specs.Grid.{gridP}
+use Rattle.task.specs.Task.{hostMost, purposeP}
+use Rattle.task.specs.Placed.{timesP, taskP}
+use Rattle.card.specs.Card.{cardP, fileP}
+use Rattle.card.specs.Content.{fileMost, editionP}
 use Rattle.card.specs.Answers.{numberOf, told, answer}
 use Rattle.card.specs.declared.Card.{Card}
 use Rattle.card.specs.declared.Outcome.the-variants.{Read}
@@ -63,13 +70,17 @@ module _ (s : List ℕ) where
   unfolding spanP
   span least most at = then (countP least most s at) (count least most at) (λ n e. judged (leb (e + n) (length s)) (goes _ _) short)
 
+  bytes : (n at : ℕ) → Stops (bytesP n s at)
+  unfolding bytesP
+  bytes n at = judged (leb (at + n) (length s)) (goes _ _) short
+
   string : (least most at : ℕ) → Stops (stringP least most s at)
   unfolding stringP
-  string least most at = then (spanP least most s at) (span least most at) (λ p e. goes _ _)
+  string least most at = then (countP least most s at) (count least most at) (λ n e. bytes n e)
 
   big : (width at : ℕ) → Stops (bigP width s at)
   unfolding bigP
-  big width at = judged (leb (at + width) (length s)) (goes _ _) short
+  big width at = then (bytesP width s at) (bytes width at) (λ l e. goes _ _)
 
   module _ {A : Type 0} (p : List ℕ → ℕ → Parsed A) (each : (at : ℕ) → Stops (p s at)) where
     row : (n at : ℕ) → Stops (many p n s at)
@@ -103,7 +114,11 @@ module _ (s : List ℕ) where
 
   flags : (at : ℕ) → Stops (flagsP s at)
   unfolding flagsP
-  flags at = then (byteP s at) (byte at) (λ v e. then (byteP s e) (byte e) (λ f g. judged (paired f) (goes _ _) wrong))
+  flags at = then (byteP s at) (byte at) (λ f e. judged (paired f) (goes _ _) wrong)
+
+  opening : (at : ℕ) → Stops (openingP s at)
+  unfolding openingP
+  opening at = then (byteP s at) (byte at) (λ v e. then (flagsP s e) (flags e) (λ f g. goes _ _))
 
   dates : (at : ℕ) → Stops (datesP s at)
   unfolding datesP
@@ -111,7 +126,7 @@ module _ (s : List ℕ) where
 
   head : (at : ℕ) → Stops (headP s at)
   unfolding headP
-  head at = then (flagsP s at) (flags at) (λ v e. then (datesP s e) (dates e) (λ d f. goes _ _))
+  head at = then (openingP s at) (opening at) (λ v e. then (datesP s e) (dates e) (λ d f. goes _ _))
 
   strings : (at : ℕ) → Stops (stringsP s at)
   unfolding stringsP
@@ -124,16 +139,16 @@ module _ (s : List ℕ) where
   unfolding namesP
   names at = then (nameP s at) (name at) (λ _ e. then (nameP s e) (name e) (λ _ f. goes _ _))
 
-  option : (b : Bool) (most at : ℕ) → Stops (optionP b most s at)
-  unfolding optionP
+  option : (b : Bool) (most at : ℕ) → Stops (spanIfP b most s at)
+  unfolding spanIfP
   option b most at = judged b (span 1 most at) (goes _ _)
 
   key-ids : (f at : ℕ) → Stops (keyIdsP f s at)
   unfolding keyIdsP
   key-ids f at =
-      then (optionP (flag 1 f) keyIdMost s at) (option (flag 1 f) keyIdMost at) (λ a e.
-      then (optionP (flag 2 f) serialMost s e) (option (flag 2 f) serialMost e) (λ b g.
-      then (optionP (flag 4 f) keyIdMost s g) (option (flag 4 f) keyIdMost g) (λ c h. goes _ _)))
+      then (spanIfP (flag 1 f) keyIdMost s at) (option (flag 1 f) keyIdMost at) (λ a e.
+      then (spanIfP (flag 2 f) serialMost s e) (option (flag 2 f) serialMost e) (λ b g.
+      then (spanIfP (flag 4 f) keyIdMost s g) (option (flag 4 f) keyIdMost g) (λ c h. goes _ _)))
 
   path-length : (f at : ℕ) → Stops (pathLengthP f s at)
   unfolding pathLengthP
@@ -185,8 +200,8 @@ module _ (s : List ℕ) where
   unfolding verdictP
   verdict at = then (byteP s at) (byte at) (λ v e. judged (leb v 1) (goes _ _) wrong)
 
-  verdicts : (r b at : ℕ) → Stops (verdictsP r b s at)
-  unfolding verdictsP
+  verdicts : (r b at : ℕ) → Stops (gridP r b s at)
+  unfolding gridP
   verdicts r b at =
       then (bigP 2 s at) (big 2 at) (λ n e.
       judged (eqb n ((r + b) * b)) (then (many verdictP n s e) (row verdictP verdict n e) (λ _ f. goes _ _)) bad)
@@ -211,7 +226,7 @@ module _ (s : List ℕ) where
       then (editionP s at) (edition at) (λ _ e.
       then (rootsP s e) (roots e) (λ r f.
       then (bundleP s f) (bundle f) (λ b g.
-      then (verdictsP (r .count) (b .count) s g) (verdicts (r .count) (b .count) g) (λ v h.
+      then (gridP (r .count) (b .count) s g) (verdicts (r .count) (b .count) g) (λ v h.
       then (taskP s h) (task h) (λ t i. goes _ _)))))
 
   pub file-stops : Stops (fileP s)

@@ -1,32 +1,25 @@
--- A card file as it stands: its sections in their order, judged from left to right. What is found are numbers and places in the file
--- (docs/CARD-FILE.md, "Layout"). Assumes nothing.
+-- Where a card file's sections stand, for readers that copy nothing: in their order, judged from left to right. What is found are
+-- numbers and places in the file. Assumes nothing.
 use Prim.Native.Nat.{ℕ}
 use mathlib.Core.Bool.{cond}
 use mathlib.Core.List.{List}
-use lib.Dec.{eqb, leb}
+use lib.Dec.{leb}
 use lib.ListN.{length}
-use Rattle.fields.specs.Fields.{Parsed, got, stop, after, whole, byteP}
+use Rattle.fields.specs.Fields.{Parsed, got, stop, after, whole}
 use Rattle.certificates.specs.Certificates.{rootsP, bundleP, fresh-roots, fresh-bundle}
-use Rattle.verdicts.specs.Verdicts.{verdictsP, fresh-verdicts}
-use Rattle.task.specs.Task.{taskP, fresh-task}
+use Rattle.verdicts.specs.Grid.{gridP, fresh-verdicts}
+use Rattle.task.specs.Placed.{taskP, fresh-task}
+use Rattle.card.specs.Content.{editionP, fileMost}
 use Rattle.card.specs.declared.Card.{Card}
-
--- byte 1
-unfoldable pub editionP : List ℕ → ℕ → Parsed ℕ
-editionP s at = after (byteP s at) (λ edition e. cond (eqb edition 1) (got edition e) (stop 4))
 
 unfoldable pub cardP : List ℕ → ℕ → Parsed Card
 cardP s at =
     after (editionP s at) (λ _ e.
     after (rootsP s e) (λ roots f.
     after (bundleP s f) (λ bundle g.
-    after (verdictsP (roots .count) (bundle .count) s g) (λ verdicts h.
+    after (gridP (roots .count) (bundle .count) s g) (λ verdicts h.
     after (taskP s h) (λ task i.
     got (record { roots = roots; bundle = bundle; verdicts = verdicts; task = task }) i)))))
-
--- how many bytes a file has at most
-abbrev pub fileMost : ℕ
-fileMost = 65535
 
 -- not too long, and the file ends where the task ends
 unfoldable pub fileP : List ℕ → Parsed Card

@@ -1,17 +1,16 @@
--- What a card file says: certificates, who signed whom, and the task, as lists and numbers, and nothing of where they stand.
--- Assumes nothing.
+-- What a card file says: certificates, who signed whom, and the task; its sections in their order, judged from left to right
+-- (docs/CARD-FILE.md, "Layout"). Assumes nothing.
 use Prim.Native.Nat.{ℕ, _+_, _*_}
-use mathlib.Core.Bool.{Bool, _&&_}
-use mathlib.Core.List.{List, [], map}
+use mathlib.Core.Bool.{Bool, cond, _&&_}
+use mathlib.Core.List.{List, []}
 use mathlib.Core.Option.{none}
-use lib.Dec.{eqb, ltb}
-use lib.ListN.{length, getD, take}
-use Rattle.fields.specs.Fields.{Parsed, got, after, many, bytesOf}
-use Rattle.record.specs.Certificate.{Certificate, listOf, certificateOf}
-use Rattle.record.specs.declared.Record.{Record}
-use Rattle.verdicts.specs.Verdicts.{verdictP}
-use Rattle.card.specs.Card.{fileP}
-use Rattle.card.specs.declared.Card.{Card}
+use lib.Dec.{eqb, leb, ltb}
+use lib.ListN.{length, getD}
+use Rattle.places.specs.Limits.{rootsMost, bundleMost}
+use Rattle.fields.specs.Fields.{Parsed, got, stop, after, countP, byteP, stringP, bigP, countedP, whole}
+use Rattle.record.specs.Certificate.{Certificate, certificateP}
+use Rattle.verdicts.specs.Verdicts.{verdictsP}
+use Rattle.task.specs.Task.{purposeP, hostMost}
 
 pub record Content : Type 0 where
   pub roots : List Certificate
@@ -21,25 +20,30 @@ pub record Content : Type 0 where
   pub budget : ℕ
   pub host : List ℕ
 
--- so many records say so many certificates
-unfoldable pub certificatesOf : ℕ → List Record → List ℕ → List Certificate
-certificatesOf n records s = map (λ r. certificateOf r s) (take n records)
+-- the edition: byte 1
+unfoldable pub editionP : List ℕ → ℕ → Parsed ℕ
+editionP s at = after (byteP s at) (λ edition e. cond (eqb edition 1) (got edition e) (stop 4))
 
--- what a card's numbers and places say over a file, whatever they are
-unfoldable pub contentOf : Card → List ℕ → Content
-contentOf c s =
-    record {
-      roots = certificatesOf (c .roots .count) (c .roots .records) s;
-      bundle = certificatesOf (c .bundle .count) (c .bundle .records) s;
-      verdicts = listOf (many verdictP ((c .verdicts .roots + c .verdicts .bundle) * c .verdicts .bundle) s (c .verdicts .first));
-      now = c .task .now;
-      budget = c .task .budget;
-      host = bytesOf (c .task .host .name) s;
-    }
+unfoldable pub sectionsP : List ℕ → ℕ → Parsed Content
+sectionsP s at =
+    after (editionP s at) (λ _ a.
+    after (countedP 0 rootsMost certificateP s a) (λ roots b.
+    after (countedP 0 bundleMost certificateP s b) (λ bundle c.
+    after (verdictsP (length roots) (length bundle) s c) (λ verdicts d.
+    after (countP 1 1 s d) (λ _ e.
+    after (bigP 8 s e) (λ now f.
+    after (bigP 8 s f) (λ budget g.
+    after (purposeP s g) (λ _ h.
+    after (stringP 0 hostMost s h) (λ host i.
+    got (record { roots = roots; bundle = bundle; verdicts = verdicts; now = now; budget = budget; host = host }) i)))))))))
 
--- the content of a file
+-- how many bytes a file has at most
+abbrev pub fileMost : ℕ
+fileMost = 65535
+
+-- the content of a file: not too long, and the file ends where the task ends
 unfoldable pub contentP : List ℕ → Parsed Content
-contentP s = after (fileP s) (λ c e. got (contentOf c s) e)
+contentP s = cond (leb (length s) fileMost) (whole sectionsP s) (stop 5)
 
 -- ---- who signed whom
 

@@ -1,3 +1,4 @@
-pub mod Card
 pub mod Content
+pub mod Card
+pub mod Parts
 pub mod Answers

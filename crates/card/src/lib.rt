@@ -22,7 +22,8 @@ ghost use lib.Dec.{leb, ltb};
 ghost use lib.ListN.{length};
 ghost use Rattle.fields.specs.Fields.{got, stop, after};
 ghost use Rattle.fields.specs.Answers.{passed, passing, held};
-ghost use Rattle.card.specs.Card.{fileMost, editionP, fileP, fresh-card};
+ghost use Rattle.card.specs.Card.{fileP, fresh-card};
+ghost use Rattle.card.specs.Content.{fileMost, editionP};
 ghost use Rattle.card.specs.Answers.{told, answer};
 
 // A card file that was read.

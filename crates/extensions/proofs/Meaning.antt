@@ -10,9 +10,11 @@ use Rattle.fields.specs.declared.string.Span.{Span}
 use Rattle.fields.proofs.After.{after-got, got-is}
 use Rattle.fields.proofs.Counts.{byte-few}
 use Rattle.fields.proofs.Strings.{SpanRead, span-read}
-use Rattle.lists.specs.Lists.{usageP, usagesP, dnsNameP, dnsNamesP, usageMost, usagesMost, dnsNameMost, dnsNamesMost}
+use Rattle.lists.specs.Lists.{usageP, dnsNameP, usageMost, usagesMost, dnsNameMost, dnsNamesMost}
+use Rattle.lists.specs.Rows.{usagesP, dnsNamesP}
 use Rattle.lists.proofs.Meaning.{RowRead, row-read, row-each, usage-few, dns-name-bounded}
-use Rattle.extensions.specs.Extensions.{flag, optionP, keyIdsP, pathLengthP, extensionsP, keyIdMost, serialMost}
+use Rattle.extensions.specs.Extensions.{spanIfP, keyIdsP, pathLengthP, extensionsP}
+use Rattle.extensions.specs.Flags.{flag, keyIdMost, serialMost}
 use Rattle.extensions.specs.declared.KeyIds.{KeyIds}
 use Rattle.extensions.specs.declared.Extensions.{Extensions}
 
@@ -26,17 +28,17 @@ pub record KeyIdsRead (flags : ℕ) (s : List ℕ) (at : ℕ) (k : KeyIds) (e : 
   pub subject : flag 4 flags ≡ true → SpanRead 1 keyIdMost s subject-at (k .subject) e
 
 option-read : (present : Bool) (most : ℕ) (s : List ℕ) (at : ℕ) (p : Span) (e : ℕ)
-    → optionP present most s at ≡ got p e → present ≡ true → SpanRead 1 most s at p e
-unfolding optionP
+    → spanIfP present most s at ≡ got p e → present ≡ true → SpanRead 1 most s at p e
+unfolding spanIfP
 option-read true most s at p e h t = span-read 1 most s at p e h
 option-read false most s at p e h t = let z : _≡_ {A = ℕ} 0 1 = cc in absurd (omega arith)
 
 key-ids-read : (flags : ℕ) (s : List ℕ) (at : ℕ) (k : KeyIds) (e : ℕ) → keyIdsP flags s at ≡ got k e → KeyIdsRead flags s at k e
 unfolding keyIdsP
 key-ids-read flags s at k e h =
-    let authority = after-got (optionP (flag 1 flags) keyIdMost s at) _ h in
-    let serial = after-got (optionP (flag 2 flags) serialMost s (authority .place)) _ (authority .next) in
-    let subject = after-got (optionP (flag 4 flags) keyIdMost s (serial .place)) _ (serial .next) in
+    let authority = after-got (spanIfP (flag 1 flags) keyIdMost s at) _ h in
+    let serial = after-got (spanIfP (flag 2 flags) serialMost s (authority .place)) _ (authority .next) in
+    let subject = after-got (spanIfP (flag 4 flags) keyIdMost s (serial .place)) _ (serial .next) in
     got-is (KeyIdsRead flags s at) (subject .next)
     (record {
       serial-at = authority .place;

@@ -1,42 +1,31 @@
--- A record's extensions as they stand in a card file: the parts that its flags announce, then its lists, each with its limits,
--- judged from left to right (docs/CARD-FILE.md, "Record"). Assumes nothing.
-use Prim.Native.Nat.{ℕ, _/_, _%_}
+-- Where a record's extensions stand, for readers that copy nothing: the parts that its flags announce, then its lists, each with its
+-- limits, judged from left to right. Assumes nothing.
+use Prim.Native.Nat.{ℕ}
 use mathlib.Core.Bool.{Bool, cond}
 use mathlib.Core.List.{List}
-use lib.Dec.{eqb}
-use Rattle.fields.specs.Fields.{Parsed, got, after, byteP, spanP, nowhere}
+use Rattle.fields.specs.Fields.{Parsed, got, after, byteP}
+use Rattle.fields.specs.Spans.{spanP, nowhere}
 use Rattle.fields.specs.declared.string.Span.{Span}
-use Rattle.lists.specs.Lists.{usagesP, dnsNamesP}
+use Rattle.lists.specs.Rows.{usagesP, dnsNamesP}
+use Rattle.extensions.specs.Flags.{hasAuthorityKeyId, hasAuthoritySerial, hasSubjectKeyId, hasPathLength, keyIdMost, serialMost}
 use Rattle.extensions.specs.declared.KeyIds.{KeyIds}
 use Rattle.extensions.specs.declared.Extensions.{Extensions}
 
--- flag k, a power of two, is set
-unfoldable pub flag : ℕ → ℕ → Bool
-flag k flags = eqb (flags / k % 2) 1
-
 -- a string of 1 to so many bytes where its flag is set
-unfoldable pub optionP : Bool → ℕ → List ℕ → ℕ → Parsed Span
-optionP present most s at = cond present (spanP 1 most s at) (got nowhere at)
+unfoldable pub spanIfP : Bool → ℕ → List ℕ → ℕ → Parsed Span
+spanIfP present most s at = cond present (spanP 1 most s at) (got nowhere at)
 
--- the most bytes of a key id
-abbrev pub keyIdMost : ℕ
-keyIdMost = 64
-
--- the most bytes of a serial, the authority's and a record's own
-abbrev pub serialMost : ℕ
-serialMost = 20
-
--- authority key id 1..64 if flag 1; authority serial 1..20 if flag 2; subject key id 1..64 if flag 4
+-- authority key id 1..64, authority serial 1..20, subject key id 1..64, each by its flag
 unfoldable pub keyIdsP : ℕ → List ℕ → ℕ → Parsed KeyIds
 keyIdsP flags s at =
-    after (optionP (flag 1 flags) keyIdMost s at) (λ akid e.
-    after (optionP (flag 2 flags) serialMost s e) (λ aserial f.
-    after (optionP (flag 4 flags) keyIdMost s f) (λ skid g.
+    after (spanIfP (hasAuthorityKeyId flags) keyIdMost s at) (λ akid e.
+    after (spanIfP (hasAuthoritySerial flags) serialMost s e) (λ aserial f.
+    after (spanIfP (hasSubjectKeyId flags) keyIdMost s f) (λ skid g.
     got (record { authority = akid; «authority_serial» = aserial; subject = skid }) g)))
 
--- a path length byte if flag 16
+-- a path length byte, by its flag
 unfoldable pub pathLengthP : ℕ → List ℕ → ℕ → Parsed ℕ
-pathLengthP flags s at = cond (flag 16 flags) (byteP s at) (got 0 at)
+pathLengthP flags s at = cond (hasPathLength flags) (byteP s at) (got 0 at)
 
 -- key ids, path length, usages 0..8, DNS names 0..32
 unfoldable pub extensionsP : ℕ → List ℕ → ℕ → Parsed Extensions

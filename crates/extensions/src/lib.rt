@@ -12,7 +12,7 @@ use lists::dns_names_at;
 use lists::usages_at;
 ghost use mathlib.Core.Path.{_≡_};
 ghost use Rattle.fields.specs.Answers.{counted};
-ghost use Rattle.extensions.specs.Extensions.{optionP, keyIdsP, pathLengthP, extensionsP};
+ghost use Rattle.extensions.specs.Extensions.{spanIfP, keyIdsP, pathLengthP, extensionsP};
 ghost use Rattle.extensions.specs.Answers.{opted, identified, extended};
 
 // Key ids and the authority's serial; a part whose flag is not set stands nowhere.
@@ -144,7 +144,7 @@ fn path_length_at(file: &[u8], at: usize, flags: usize) -> CountAt
 
 // A string of at least one byte where it is present; nothing is read where it is not.
 fn option_at(file: &[u8], at: usize, present: bool, most: usize) -> OptionAt
-    ensures { λ r. ⌜ opted r ≡ optionP present most (now (file .entry)) at ⌝ }
+    ensures { λ r. ⌜ opted r ≡ spanIfP present most (now (file .entry)) at ⌝ }
 {
     if present {
         match string_at(file, at, KeyIds::LEAST, most) {

@@ -9,7 +9,7 @@ use lib.ListN.{length, getD, take, drop}
 use lib.Seq.{take-suc}
 use lib.Pow.{pow-add, pow-mono}
 use borrow.Author.Tests.{le-leb, lt-leb}
-use Rattle.fields.specs.Fields.{got, stop, bigFrom, bigEndian, bigP}
+use Rattle.fields.specs.Fields.{got, stop, bytesP, bigFrom, bigEndian, bigP}
 
 big-snoc : (v : ℕ) (l : List ℕ) (b : ℕ) → bigFrom v (l ++ (b ∷ [])) ≡ bigFrom v l * 256 + b
 big-snoc v [] b = refl
@@ -30,12 +30,12 @@ big-fits i v b m h p =
 
 module _ (width : ℕ) (s : List ℕ) (at : ℕ) where
   pub big-cut : length s < at + width → bigP width s at ≡ stop 6
-  unfolding bigP
+  unfolding bigP bytesP
   big-cut h = rw (lt-leb (at + width) (length s) h)
 
   -- the slice from a place up to the place past the number holds its bytes
   pub big-got : at + width ≤ length s → (v : ℕ) → v ≡ bigEndian (take (at + width - at) (drop at s)) → bigP width s at ≡ got v (at + width)
-  unfolding bigP
+  unfolding bigP bytesP
   big-got h v e =
       let w : at + width - at ≡ width = omega arith in
       rw (le-leb (at + width) (length s) h, e, w)

@@ -1,7 +1,7 @@
 -- A string's span by its length, and a span's bytes: one law for each answer of a reader of strings, what a string that was
 -- read tells, and the string by its span. Assumes nothing.
 use Prim.Native.Nat.{ℕ, _+_, _-_, _<_, _≤_}
-use mathlib.Core.Path.{_≡_, refl, ap, _∙_}
+use mathlib.Core.Path.{_≡_, refl, sym, ap, _∙_}
 use mathlib.Core.Bool.{Bool, true, false, cond}
 use mathlib.Core.List.{List, []}
 use native.Mathlib.Omega.{arith}
@@ -9,7 +9,8 @@ use lib.ListN.{length, take, drop, length-drop}
 use lib.Seq.{length-take-le}
 use lib.Dec.{leb}
 use borrow.Author.Tests.{leb-true, le-leb, lt-leb}
-use Rattle.fields.specs.Fields.{Parsed, got, stop, after, countP, spanP, bytesOf, stringP}
+use Rattle.fields.specs.Fields.{Parsed, got, stop, after, countP, bytesP, stringP}
+use Rattle.fields.specs.Spans.{spanP, bytesOf}
 use Rattle.fields.specs.declared.string.Span.{Span}
 use Rattle.fields.proofs.Counts.{count-read}
 
@@ -94,10 +95,30 @@ module _ (least most : ℕ) (s : List ℕ) (at : ℕ) (p : Span) (e : ℕ) where
   unfolding spanP
   span-read h = by-count _ refl h
 
-  pub string-got : spanP least most s at ≡ got p e → stringP least most s at ≡ got (bytesOf p s) e
-  unfolding stringP
-  string-got h = rw h
+-- ---- a string by its span
 
-pub string-stops : (least most : ℕ) (s : List ℕ) (at r : ℕ) → spanP least most s at ≡ stop r → stringP least most s at ≡ stop r
-unfolding stringP
-string-stops least most s at r h = rw h
+module _ (least most : ℕ) (s : List ℕ) where
+  pub string-by-span : (at : ℕ) → stringP least most s at ≡ after (spanP least most s at) (λ p e. got (bytesOf p s) e)
+  unfolding stringP spanP bytesP
+  string-by-span at = by-count (countP least most s at)
+    where
+      spelt : (n e : ℕ) (there : Bool) → leb (e + n) (length s) ≡ there
+          → cond there (got (take n (drop e s)) (e + n)) (stop 6)
+          ≡ after (cond there (got (record { start = e; end = e + n }) (e + n)) (stop 6)) (λ p e. got (bytesOf p s) e)
+      spelt n e true t =
+          let w : e + n - e ≡ n = omega arith in
+          let b = bytes-within (record { start = e; end = e + n }) s (omega arith) (leb-true (e + n) (length s) t) in
+          ap (λ l. got l (e + n)) (sym (b ∙ ap (λ k. take k (drop e s)) w))
+      spelt n e false t = refl
+
+      by-count : (x : Parsed ℕ)
+          → after x (λ n e. bytesP n s e)
+          ≡ after (after x (λ n e. cond (leb (e + n) (length s)) (got (record { start = e; end = e + n }) (e + n)) (stop 6))) (λ p e. got (bytesOf p s) e)
+      by-count (got n e) = spelt n e (leb (e + n) (length s)) refl
+      by-count (stop r) = refl
+
+  pub string-got : (at : ℕ) (p : Span) (e : ℕ) → spanP least most s at ≡ got p e → stringP least most s at ≡ got (bytesOf p s) e
+  string-got at p e h = string-by-span at ∙ ap (λ x. after x (λ p e. got (bytesOf p s) e)) h
+
+  pub string-stops : (at r : ℕ) → spanP least most s at ≡ stop r → stringP least most s at ≡ stop r
+  string-stops at r h = string-by-span at ∙ ap (λ x. after x (λ p e. got (bytesOf p s) e)) h

@@ -1,12 +1,12 @@
 -- What stands at a place of a card file: a count, a string, a number, so many of a thing in a row.
 -- Each definition gives the value and the place past it, or the reply's number, judged from left to right.
 -- Assumes nothing.
-use Prim.Native.Nat.{ℕ, zero, suc, _+_, _-_, _*_}
-use mathlib.Core.Bool.{cond, _&&_}
+use Prim.Native.Nat.{ℕ, zero, suc, _+_, _*_}
+use mathlib.Core.Bool.{Bool, cond, _&&_}
 use mathlib.Core.List.{List, [], _∷_}
+use mathlib.Core.Option.{Option, none, some}
 use lib.ListN.{length, getD, take, drop}
 use lib.Dec.{ltb, leb}
-use Rattle.fields.specs.declared.string.Span.{Span}
 
 -- what reading finds: a value and the place past it, or the number of the reply
 pub data Parsed (A : Type 0) : Type 0 where
@@ -29,23 +29,13 @@ countP least most s at =
 unfoldable pub byteP : List ℕ → ℕ → Parsed ℕ
 byteP = countP 0 255
 
--- the place of a string's bytes: the length is judged first, then its bytes must be there
-unfoldable pub spanP : ℕ → ℕ → List ℕ → ℕ → Parsed Span
-spanP least most s at =
-    after (countP least most s at) (λ n e.
-    cond (leb (e + n) (length s)) (got (record { start = e; end = e + n }) (e + n)) (stop 6))
+-- the next n bytes
+unfoldable pub bytesP : ℕ → List ℕ → ℕ → Parsed (List ℕ)
+bytesP n s at = cond (leb (at + n) (length s)) (got (take n (drop at s)) (at + n)) (stop 6)
 
--- the bytes of a span; none where it does not lie within the file
-unfoldable pub bytesOf : Span → List ℕ → List ℕ
-bytesOf p s = cond (leb (p .start) (p .end) && leb (p .end) (length s)) (take (p .end - p .start) (drop (p .start) s)) []
-
--- the span of a part that is not there
-abbrev pub nowhere : Span
-nowhere = record { start = 0; end = 0 }
-
--- a string
+-- a string: the length is judged first, then its bytes must be there
 unfoldable pub stringP : ℕ → ℕ → List ℕ → ℕ → Parsed (List ℕ)
-stringP least most s at = after (spanP least most s at) (λ p e. got (bytesOf p s) e)
+stringP least most s at = after (countP least most s at) (λ n e. bytesP n s e)
 
 -- bytes as one number, the highest first: v is the number that those before them make
 abbrev pub bigFrom : ℕ → List ℕ → ℕ
@@ -57,7 +47,11 @@ bigEndian l = bigFrom 0 l
 
 -- a number of so many bytes
 unfoldable pub bigP : ℕ → List ℕ → ℕ → Parsed ℕ
-bigP width s at = cond (leb (at + width) (length s)) (got (bigEndian (take width (drop at s))) (at + width)) (stop 6)
+bigP width s at = after (bytesP width s at) (λ l e. got (bigEndian l) e)
+
+-- a thing that stands there only where it is announced
+unfoldable pub optionalP : {A : Type 0} → Bool → (List ℕ → ℕ → Parsed A) → List ℕ → ℕ → Parsed (Option A)
+optionalP announced p s at = cond announced (after (p s at) (λ a e. got (some a) e)) (got none at)
 
 -- n of a thing in a row
 unfoldable pub many : {A : Type 0} → (List ℕ → ℕ → Parsed A) → ℕ → List ℕ → ℕ → Parsed (List A)

@@ -3,7 +3,7 @@ use crate::CountAt;
 use crate::Fault;
 use crate::count_at;
 ghost use mathlib.Core.Path.{_≡_};
-ghost use Rattle.fields.specs.Fields.{spanP, bytesOf};
+ghost use Rattle.fields.specs.Spans.{spanP, bytesOf};
 ghost use Rattle.fields.specs.Answers.{spanned};
 
 // A string's bytes in a file: from start up to end, which is the place past the string.

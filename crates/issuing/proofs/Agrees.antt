@@ -10,15 +10,15 @@ use lib.Dec.{eqb, ltb}
 use lib.ListN.{length, getD}
 use borrow.Author.Tests.{ltb-true, ltb-false, le-ltb, le-leb}
 use Rattle.places.specs.Limits.{rootsMost, bundleMost}
-use Rattle.record.specs.Certificate.{certificateOf}
 use Rattle.record.specs.Fresh.{fresh}
 use Rattle.record.specs.declared.Record.{Record}
-use Rattle.record.specs.Parts.{issuerSpan, subjectSpan}
+use Rattle.record.specs.Parts.{issuerSpan, subjectSpan, certificateOf}
 use Rattle.record.proofs.Meaning.{issuer-within, subject-within, says-issuer, says-subject}
 use Rattle.same.proofs.Spans.{spans-read}
 use Rattle.certificates.specs.Certificates.{recordOf, sizeOf}
 use Rattle.certificates.proofs.Standing.{Stands}
-use Rattle.card.specs.Content.{Content, Issuer, root, bundled, contentOf, certificateAt, there, signed}
+use Rattle.card.specs.Content.{Content, Issuer, root, bundled, certificateAt, there, signed}
+use Rattle.card.specs.Parts.{contentOf}
 use Rattle.card.specs.declared.Card.{Card}
 use Rattle.card.proofs.Sections.{CardRead}
 use Rattle.card.proofs.Signed.{root-signed, bundle-signed}

@@ -6,15 +6,14 @@ use mathlib.Core.Bool.{Bool, true, false, _&&_}
 use mathlib.Core.List.{List}
 use native.Mathlib.Nat.{div-one}
 use lib.Dec.{eqb}
-use Rattle.fields.specs.Fields.{bytesOf}
+use Rattle.fields.specs.Spans.{bytesOf}
 use Rattle.fields.specs.declared.string.Span.{Span}
 use Rattle.same.specs.Answers.{sameNames}
 use Rattle.keys.specs.AuthKeyId.{given, checkAuthKeyId}
-use Rattle.extensions.specs.Extensions.{flag}
+use Rattle.extensions.specs.Flags.{flag}
 use Rattle.extensions.specs.declared.KeyIds.{KeyIds}
 use Rattle.record.specs.declared.strings.Strings.{Strings}
-use Rattle.record.specs.Parts.{headOf, stringsOf, keyIdsOf, issuerSpan, subjectSpan}
-use Rattle.record.specs.Certificate.{certificateBy, certificateOf, present}
+use Rattle.record.specs.Parts.{headOf, stringsOf, keyIdsOf, issuerSpan, subjectSpan, certificateBy, certificateOf, present}
 use Rattle.record.specs.declared.Record.{Record}
 use Rattle.issuing.specs.Issued.{keysFit}
 use Rattle.issuing.specs.Records.{claimOf, likelyIssuedAt}

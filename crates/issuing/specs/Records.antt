@@ -5,13 +5,12 @@ use mathlib.Core.Bool.{Bool, true, _&&_}
 use mathlib.Core.List.{List, [], _∷_}
 use Rattle.places.specs.Limits.{rootsMost, bundleMost}
 use Rattle.same.specs.Answers.{sameNames}
-use Rattle.record.specs.Parts.{headOf, keyIdsOf, issuerSpan, subjectSpan}
-use Rattle.record.specs.Certificate.{certificateOf}
+use Rattle.record.specs.Parts.{headOf, keyIdsOf, issuerSpan, subjectSpan, certificateOf}
 use Rattle.record.specs.declared.Record.{Record}
 use Rattle.certificates.specs.Certificates.{recordOf, sizeOf}
 use Rattle.certificates.specs.declared.roots.Roots.{Roots}
 use Rattle.certificates.specs.declared.bundle.Bundle.{Bundle}
-use Rattle.verdicts.specs.Verdicts.{rootSigned, bundleSigned}
+use Rattle.verdicts.specs.Grid.{rootSigned, bundleSigned}
 use Rattle.verdicts.specs.declared.Verdicts.{Verdicts}
 use Rattle.rows.specs.Rows.{either, rowOf, listing}
 use Rattle.issuing.specs.Issued.{keysFit}

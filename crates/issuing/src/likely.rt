@@ -5,7 +5,7 @@ use keys::check_auth_key_id;
 use record::Record;
 use same::same_names;
 ghost use mathlib.Core.Path.{_≡_};
-ghost use Rattle.record.specs.Certificate.{certificateOf};
+ghost use Rattle.record.specs.Parts.{certificateOf};
 ghost use Rattle.record.specs.declared.Record.{Record};
 ghost use Rattle.issuing.specs.Issued.{keysFit};
 ghost use Rattle.issuing.specs.Records.{claimOf, likelyIssuedAt};

@@ -13,7 +13,7 @@ ghost use mathlib.Core.Path.{_≡_};
 ghost use Rattle.places.specs.Limits.{rootsMost, bundleMost};
 ghost use Rattle.record.specs.declared.Record.{Record};
 ghost use Rattle.certificates.specs.Certificates.{recordOf, sizeOf};
-ghost use Rattle.verdicts.specs.Verdicts.{bundleSigned, rootSigned};
+ghost use Rattle.verdicts.specs.Grid.{bundleSigned, rootSigned};
 ghost use Rattle.rows.specs.Rows.{rowOf};
 ghost use Rattle.issuing.specs.Records.{claimOf, likelyIssuedAt};
 

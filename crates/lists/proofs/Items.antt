@@ -5,14 +5,16 @@ use mathlib.Core.Path.{_≡_, sym, ap, _∙_}
 use mathlib.Core.List.{List, []}
 use lib.ListN.{getD}
 use borrow.Author.Tests.{le-ltb, lt-ltb}
-use Rattle.fields.specs.Fields.{Parsed, got, stop, stringP, bytesOf, many}
+use Rattle.fields.specs.Fields.{Parsed, got, stop, stringP, many}
+use Rattle.fields.specs.Spans.{bytesOf}
 use Rattle.fields.specs.Answers.{passing}
 use Rattle.fields.specs.declared.string.Span.{Span}
 use Rattle.fields.proofs.After.{after-got}
 use Rattle.fields.proofs.Ends.{passing-stops, passing-got}
 use Rattle.fields.proofs.Many.{many-nth}
-use Rattle.fields.proofs.Strings.{SpanRead, span-read}
-use Rattle.lists.specs.Lists.{dnsSpanP, dnsNameP, itemP, dnsNameMost}
+use Rattle.fields.proofs.Strings.{SpanRead, span-read, string-by-span}
+use Rattle.lists.specs.Lists.{dnsNameP, dnsNameMost}
+use Rattle.lists.specs.Rows.{dnsSpanP, itemP}
 use Rattle.lists.specs.declared.Row.{Row}
 use Rattle.lists.proofs.Meaning.{RowRead}
 
@@ -54,9 +56,9 @@ pub record Spelt (x : Parsed Span) (s : List ℕ) (name : List ℕ) : Type 0 whe
 
 -- a DNS name by its span
 dns-name-spelt : (s : List ℕ) (at : ℕ) (name : List ℕ) (e : ℕ) → dnsNameP s at ≡ got name e → Spelt (dnsSpanP s at) s name
-unfolding dnsNameP stringP
+unfolding dnsNameP
 dns-name-spelt s at name e h =
-    let t = after-got (dnsSpanP s at) _ h in
+    let t = after-got (dnsSpanP s at) _ (sym (string-by-span 1 dnsNameMost s at) ∙ h) in
     let read = span-read 1 dnsNameMost s at (t .value) (t .place) (t .first) in
     let same : t .place ≡ t .value .end = sym (read .ends) in
     record {

@@ -1,17 +1,19 @@
 -- What a list that was read holds: as many things as it says, within its limit, each of them what its reader tells. Assumes nothing.
 use Prim.Native.Nat.{ℕ, _<_, _≤_}
-use mathlib.Core.Path.{_≡_}
+use mathlib.Core.Path.{_≡_, sym, _∙_}
 use mathlib.Core.List.{List}
 use native.Mathlib.Omega.{arith}
 use lib.ListN.{length, getD}
 use lib.Dec.{leb}
 use borrow.Author.Tests.{leb-true}
-use Rattle.fields.specs.Fields.{Parsed, got, byteP, countP, spanP, stringP, many}
+use Rattle.fields.specs.Fields.{Parsed, got, byteP, countP, stringP, many}
+use Rattle.fields.specs.Spans.{spanP}
 use Rattle.fields.proofs.After.{after-got, judged-got, got-is}
 use Rattle.fields.proofs.Counts.{count-read}
 use Rattle.fields.proofs.Many.{many-length, many-nth}
-use Rattle.fields.proofs.Strings.{span-read}
-use Rattle.lists.specs.Lists.{usageP, dnsNameP, rowP, usageMost, dnsNameMost}
+use Rattle.fields.proofs.Strings.{span-read, string-by-span}
+use Rattle.lists.specs.Lists.{usageP, dnsNameP, usageMost, dnsNameMost}
+use Rattle.lists.specs.Rows.{rowP}
 use Rattle.lists.specs.declared.Row.{Row}
 
 pub record RowRead {A : Type 0} (most : ℕ) (p : List ℕ → ℕ → Parsed A) (s : List ℕ) (r : Row) (e : ℕ) : Type 0 where
@@ -50,8 +52,8 @@ usage-few s at u e h =
 
 -- a DNS name that was read has 1 to 253 bytes
 pub dns-name-bounded : (s : List ℕ) (at : ℕ) (n : List ℕ) (e : ℕ) → dnsNameP s at ≡ got n e → (1 ≤ length n) × (length n ≤ dnsNameMost)
-unfolding dnsNameP stringP
+unfolding dnsNameP
 dns-name-bounded s at n e h =
-    let span = after-got (spanP 1 dnsNameMost s at) _ h in
+    let span = after-got (spanP 1 dnsNameMost s at) _ (sym (string-by-span 1 dnsNameMost s at) ∙ h) in
     let read = span-read 1 dnsNameMost s at _ _ (span .first) in
     got-is (λ n _. (1 ≤ length n) × (length n ≤ dnsNameMost)) (span .next) (read .enough, read .few)

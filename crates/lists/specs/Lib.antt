@@ -1,2 +1,3 @@
 pub mod Lists
+pub mod Rows
 pub mod Answers

@@ -10,7 +10,8 @@ use fields::string_at;
 ghost use mathlib.Core.Path.{_≡_};
 ghost use Rattle.fields.specs.Fields.{many};
 ghost use Rattle.fields.specs.Answers.{passed, passing, spanned};
-ghost use Rattle.lists.specs.Lists.{dnsSpanP, dnsNameP, dnsNamesP, itemP};
+ghost use Rattle.lists.specs.Lists.{dnsNameP};
+ghost use Rattle.lists.specs.Rows.{dnsSpanP, dnsNamesP, itemP};
 ghost use Rattle.lists.specs.Answers.{listed};
 
 // The DNS names at a place.

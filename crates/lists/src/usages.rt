@@ -9,7 +9,8 @@ use fields::count_at;
 ghost use mathlib.Core.Path.{_≡_};
 ghost use Rattle.fields.specs.Fields.{many};
 ghost use Rattle.fields.specs.Answers.{counted, passed, passing};
-ghost use Rattle.lists.specs.Lists.{usageP, usagesP, itemP};
+ghost use Rattle.lists.specs.Lists.{usageP};
+ghost use Rattle.lists.specs.Rows.{usagesP, itemP};
 ghost use Rattle.lists.specs.Answers.{listed};
 
 // The usages at a place.

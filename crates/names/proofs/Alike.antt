@@ -8,7 +8,8 @@ use lib.Dec.{leb}
 use lib.ListN.{length, getD, take, drop, length-drop}
 use lib.Seq.{length-take-le, getD-take, getD-drop, ext-getD}
 use borrow.Author.Tests.{leb-true}
-use Rattle.fields.specs.Fields.{Parsed, got, after, countP, spanP, stringP, bytesOf, many, countedP}
+use Rattle.fields.specs.Fields.{Parsed, got, after, countP, bytesP, stringP, many, countedP}
+use Rattle.fields.specs.Spans.{bytesOf}
 use Rattle.fields.specs.declared.string.Span.{Span}
 use Rattle.fields.proofs.After.{after-got, judged-got, got-is}
 use Rattle.fields.proofs.Counts.{count-read}
@@ -100,22 +101,15 @@ record Spelt (s : List ℕ) (a : ℕ) (x : List ℕ) (e : ℕ) : Type 0 where
 
 module _ (least most : ℕ) (s : List ℕ) where
   spelt : (a : ℕ) (x : List ℕ) (e : ℕ) → stringP least most s a ≡ got x e → Spelt s a x e
-  unfolding stringP spanP
+  unfolding stringP bytesP
   spelt a x e h =
-      let span = after-got (spanP least most s a) _ h in
-      let count = after-got (countP least most s a) _ (span .first) in
+      let count = after-got (countP least most s a) _ h in
       let c = count-read least most s a (count .value) (count .place) (count .first) in
       let there = judged-got (leb (count .place + count .value) (length s)) _ 6 (count .next) in
-      got-is (Spelt s a) (span .next)
-      (got-is (λ (p : Span) e. Spelt s a (bytesOf p s) e) (there .1)
-      (by-count (count .value) (count .place) (c .is) (c .past) (leb-true _ _ (there .0))))
+      got-is (Spelt s a) (there .1) (by-count (count .value) (count .place) (c .is) (c .past) (leb-true _ _ (there .0)))
     where
-      by-count : (n m : ℕ) → n ≡ getD s a 0 → m ≡ a + 1 → m + n ≤ length s
-          → Spelt s a (bytesOf (record { start = m; end = m + n }) s) (m + n)
-      by-count n m p q l =
-          let b = bytes-within (record { start = m; end = m + n }) s (omega arith) l in
-          let k : m + n - m ≡ getD s a 0 = omega arith in
-          record { within = omega arith; is = b ∙ ap₂ (λ i j. take i (drop j s)) k q; past = omega arith }
+      by-count : (n m : ℕ) → n ≡ getD s a 0 → m ≡ a + 1 → m + n ≤ length s → Spelt s a (take n (drop m s)) (m + n)
+      by-count n m p q l = record { within = omega arith; is = ap₂ (λ i j. take i (drop j s)) p q; past = omega arith }
 
   string-local : Local s (stringP least most s)
   string-local =

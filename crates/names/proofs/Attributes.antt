@@ -3,7 +3,8 @@
 use Prim.Native.Nat.{ℕ}
 use mathlib.Core.Path.{_≡_, refl, sym, ap, _∙_}
 use mathlib.Core.List.{List}
-use Rattle.fields.specs.Fields.{Parsed, got, stop, after, spanP}
+use Rattle.fields.specs.Fields.{Parsed, got, stop, after}
+use Rattle.fields.specs.Spans.{spanP}
 use Rattle.fields.specs.Answers.{number}
 use Rattle.fields.specs.declared.fault.Fault.{Fault}
 use Rattle.fields.specs.declared.string.Span.{Span}

@@ -2,7 +2,8 @@
 use Prim.Native.Nat.{ℕ, _≤_}
 use mathlib.Core.List.{List}
 use lib.ListN.{length}
-use Rattle.fields.specs.Fields.{Parsed, got, stop, after, spanP, bytesOf}
+use Rattle.fields.specs.Fields.{Parsed, got, stop, after}
+use Rattle.fields.specs.Spans.{spanP, bytesOf}
 use Rattle.fields.specs.Answers.{number}
 use Rattle.names.specs.Names.{Attr, valueMost}
 use Rattle.names.specs.declared.read.Attribute.{Attribute}

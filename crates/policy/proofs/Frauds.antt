@@ -5,7 +5,7 @@ use mathlib.Core.Bool.{true, false}
 use mathlib.Core.List.{[], _∷_}
 use mathlib.Core.Option.{none}
 use Rattle.text.specs.Bytes.{same}
-use Rattle.extensions.specs.Extensions.{flag}
+use Rattle.extensions.specs.Flags.{flag}
 use Rattle.record.specs.Certificate.{Certificate}
 use Rattle.rules.specs.Rules.{at, inDate, wellFormed, handled, authority, allows, forServers, forHost}
 use Rattle.policy.specs.Policy.{pathLengths, policy}

@@ -4,9 +4,9 @@ use Prim.Native.Nat.{ℕ}
 use mathlib.Core.Bool.{true, false, _&&_, and-true, and-false}
 use mathlib.Core.List.{List}
 use mathlib.Core.Path.{_≡_}
-use Rattle.fields.specs.Fields.{bytesOf}
-use Rattle.record.specs.Certificate.{Certificate, certificateOf}
-use Rattle.record.specs.Parts.{headOf, extensionsOf}
+use Rattle.fields.specs.Spans.{bytesOf}
+use Rattle.record.specs.Certificate.{Certificate}
+use Rattle.record.specs.Parts.{headOf, extensionsOf, certificateOf}
 use Rattle.record.specs.declared.head.Head.{Head}
 use Rattle.extensions.specs.declared.Extensions.{Extensions}
 use Rattle.record.specs.declared.Record.{Record}

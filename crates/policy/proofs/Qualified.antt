@@ -11,7 +11,8 @@ use borrow.Author.Tests.{lt-ltb, ltb-true}
 use Rattle.places.specs.Limits.{bundleMost}
 use Rattle.record.specs.Certificate.{Certificate}
 use Rattle.certificates.proofs.Standing.{count-few}
-use Rattle.card.specs.Content.{Content, contentOf, root, bundled, certificateAt}
+use Rattle.card.specs.Content.{Content, root, bundled, certificateAt}
+use Rattle.card.specs.Parts.{contentOf}
 use Rattle.card.specs.declared.Card.{Card}
 use Rattle.card.proofs.Sections.{CardRead}
 use Rattle.card.proofs.Standing.{roots-counted}

@@ -9,11 +9,12 @@ use lib.Dec.{ltb}
 use lib.ListN.{length, getD}
 use borrow.Author.Tests.{lt-ltb}
 use Rattle.places.specs.Limits.{rootsMost, bundleMost}
-use Rattle.fields.specs.Fields.{bytesOf}
+use Rattle.fields.specs.Spans.{bytesOf}
 use Rattle.record.specs.Certificate.{Certificate}
 use Rattle.certificates.specs.Certificates.{recordOf, sizeOf}
 use Rattle.certificates.proofs.Standing.{count-few}
-use Rattle.card.specs.Content.{contentOf, root, bundled, certificateAt}
+use Rattle.card.specs.Content.{root, bundled, certificateAt}
+use Rattle.card.specs.Parts.{contentOf}
 use Rattle.card.specs.declared.Card.{Card}
 use Rattle.card.proofs.Sections.{CardRead}
 use Rattle.card.proofs.Standing.{bundled-stands}

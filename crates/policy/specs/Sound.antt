@@ -5,9 +5,9 @@ use mathlib.Core.Bool.{Bool, cond, _&&_}
 use mathlib.Core.List.{List}
 use lib.ListN.{replicate}
 use Rattle.places.specs.Limits.{rootsMost, bundleMost}
-use Rattle.fields.specs.Fields.{bytesOf}
-use Rattle.record.specs.Certificate.{Certificate, certificateOf}
-use Rattle.record.specs.Parts.{headOf, extensionsOf}
+use Rattle.fields.specs.Spans.{bytesOf}
+use Rattle.record.specs.Certificate.{Certificate}
+use Rattle.record.specs.Parts.{headOf, extensionsOf, certificateOf}
 use Rattle.record.specs.declared.Record.{Record}
 use Rattle.certificates.specs.Certificates.{recordOf, sizeOf}
 use Rattle.certificates.specs.declared.roots.Roots.{Roots}

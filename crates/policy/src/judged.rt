@@ -26,7 +26,7 @@ ghost use mathlib.Core.List.{List};
 ghost use mathlib.Core.Path.{_≡_};
 ghost use Prim.Native.Nat.{ℕ};
 ghost use mathlib.Core.Bool.{_&&_};
-ghost use Rattle.record.specs.Certificate.{certificateBy};
+ghost use Rattle.record.specs.Parts.{certificateBy};
 ghost use Rattle.record.specs.declared.Record.{Record};
 ghost use Rattle.rules.specs.Records.{forServersAt, forHostAt};
 ghost use Rattle.policy.specs.Sound.{leafSoundAt, betweenSound, topSound, soundPlaces, placeLimits, soundRoots, rootLimits, soundLeaves, judgedOf, fresh-judged};

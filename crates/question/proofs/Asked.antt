@@ -9,7 +9,8 @@ use Rattle.fields.specs.Fields.{Parsed, got, stop}
 use Rattle.fields.specs.declared.fault.Fault.{Fault}
 use Rattle.card.specs.Answers.{numberOf}
 use Rattle.card.specs.Card.{fileP}
-use Rattle.card.specs.Content.{Content, contentOf, contentP}
+use Rattle.card.specs.Content.{Content, contentP}
+use Rattle.card.specs.Parts.{contentOf}
 use Rattle.card.specs.declared.Card.{Card}
 use Rattle.card.specs.declared.Outcome.the-variants.{Read, Stop}
 use Rattle.card.proofs.Sections.{card-read}

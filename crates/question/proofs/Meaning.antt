@@ -10,7 +10,8 @@ use lib.Dec.{ltb}
 use lib.ListN.{length}
 use Rattle.places.specs.Limits.{bundleMost}
 use Rattle.certificates.specs.Certificates.{sizeOf}
-use Rattle.card.specs.Content.{Content, contentOf}
+use Rattle.card.specs.Content.{Content}
+use Rattle.card.specs.Parts.{contentOf}
 use Rattle.card.specs.declared.Card.{Card}
 use Rattle.card.proofs.Sections.{CardRead}
 use Rattle.card.proofs.Standing.{roots-counted, roots-few, bundle-counted, bundle-few}

@@ -5,8 +5,8 @@ use mathlib.Core.Bool.{_&&_, _||_, not}
 use native.Mathlib.Omega.{arith}
 use native.Mathlib.Nat.{mod-lt}
 use lib.Dec.{eqb, ltb, lit<}
-use Rattle.extensions.specs.Extensions.{flag}
-use Rattle.record.specs.Record.{paired}
+use Rattle.extensions.specs.Flags.{flag}
+use Rattle.record.specs.Certificate.{paired}
 
 -- flag j needs flag i: it is not so exactly where i's bit is below j's
 pub needs-test : (i j flags : ℕ) → not (flag j flags) || flag i flags ≡ not (ltb (flags / i % 2) (flags / j % 2))

@@ -2,9 +2,10 @@
 use Prim.Native.Nat.{ℕ, _<_}
 use mathlib.Core.List.{List, []}
 use lib.ListN.{getD}
-use Rattle.lists.specs.Lists.{usageP, dnsSpanP, dnsNameP, itemP}
+use Rattle.lists.specs.Lists.{usageP, dnsNameP}
+use Rattle.lists.specs.Rows.{dnsSpanP, itemP}
 use Rattle.lists.proofs.Items.{Found, item-read, Spelt, dns-name-read}
-use Rattle.record.specs.Certificate.{certificateOf}
+use Rattle.record.specs.Parts.{certificateOf}
 use Rattle.record.specs.declared.Record.{Record}
 use Rattle.record.proofs.Meaning.{RecordRead, extensions-read-of, says-usages, says-dns-names}
 

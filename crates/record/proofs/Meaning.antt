@@ -8,19 +8,22 @@ use native.Mathlib.Nat.{mod-eq-of-lt}
 use native.Mathlib.Omega.{arith}
 use lib.Dec.{leb}
 use lib.ListN.{length}
-use Rattle.fields.specs.Fields.{got, spanP, byteP, bigP, countP, countedP, many}
+use Rattle.fields.specs.Fields.{got, byteP, bigP, countP, countedP, many, bytesP}
+use Rattle.fields.specs.Spans.{spanP}
 use Rattle.fields.proofs.After.{after-got, judged-got, got-is}
 use Rattle.fields.proofs.Counts.{byte-few, count-read}
 use Rattle.fields.proofs.Strings.{SpanRead, span-read}
 use Rattle.names.specs.Names.{Attr, nameP, nameMost}
-use Rattle.lists.specs.Lists.{usageP, dnsNameP, usagesP, rowP, usagesMost}
-use Rattle.extensions.specs.Extensions.{keyIdsP, pathLengthP, extensionsP, serialMost}
+use Rattle.lists.specs.Lists.{usageP, dnsNameP, usagesMost}
+use Rattle.lists.specs.Rows.{usagesP, rowP, listOf}
+use Rattle.extensions.specs.Extensions.{keyIdsP, pathLengthP, extensionsP}
+use Rattle.extensions.specs.Flags.{serialMost}
 use Rattle.extensions.specs.declared.Extensions.{Extensions}
 use Rattle.extensions.proofs.Meaning.{ExtensionsRead, extensions-read}
-use Rattle.record.specs.Record.{paired, flagsP, datesP, headP, stringsP, namesP, placeMost, placeOf, placed, recordP, algorithmMost}
+use Rattle.record.specs.Record.{openingP, datesP, headP, stringsP, namesP, placeMost, placeOf, placed, recordP}
+use Rattle.record.specs.Certificate.{paired, flagsP, algorithmMost}
 use Rattle.record.specs.Fresh.{no-head, no-extensions}
-use Rattle.record.specs.Parts.{valueOr, headOf, extensionsOf}
-use Rattle.record.specs.Certificate.{certificateBy, certificateOf, listOf}
+use Rattle.record.specs.Parts.{valueOr, headOf, extensionsOf, certificateBy, certificateOf}
 use Rattle.record.specs.declared.head.Head.{Head}
 use Rattle.record.specs.declared.strings.Strings.{Strings}
 use Rattle.record.specs.declared.parties.Names.{Names}
@@ -34,26 +37,34 @@ pub record FlagsRead (version flags : ℕ) : Type 0 where
   pub flags-byte : flags ≤ 255
   pub flags-paired : paired flags ≡ true
 
-flags-read : (s : List ℕ) (at : ℕ) (v : ℕ × ℕ) (e : ℕ) → flagsP s at ≡ got v e → FlagsRead (v .0) (v .1)
+flags-judged : (s : List ℕ) (at f e : ℕ) → flagsP s at ≡ got f e → (f ≤ 255) × (paired f ≡ true) × (byteP s at ≡ got f e)
 unfolding flagsP
-flags-read s at v e h =
+flags-judged s at f e h =
+    let byte = after-got (byteP s at) _ h in
+    let judged = judged-got (paired (byte .value)) _ 8 (byte .next) in
+    got-is (λ f e. (f ≤ 255) × (paired f ≡ true) × (byteP s at ≡ got f e)) (judged .1)
+    (byte-few s at (byte .value) (byte .place) (byte .first), judged .0, byte .first)
+
+opening-read : (s : List ℕ) (at : ℕ) (v : ℕ × ℕ) (e : ℕ) → openingP s at ≡ got v e → FlagsRead (v .0) (v .1)
+unfolding openingP
+opening-read s at v e h =
     let version = after-got (byteP s at) _ h in
-    let flags = after-got (byteP s (version .place)) _ (version .next) in
-    let judged = judged-got (paired (flags .value)) _ 8 (flags .next) in
-    got-is (λ v _. FlagsRead (v .0) (v .1)) (judged .1)
+    let flags = after-got (flagsP s (version .place)) _ (version .next) in
+    let judged = flags-judged s (version .place) (flags .value) (flags .place) (flags .first) in
+    got-is (λ v _. FlagsRead (v .0) (v .1)) (flags .next)
     (record {
       version-byte = byte-few s at (version .value) (version .place) (version .first);
-      flags-byte = byte-few s (version .place) (flags .value) (flags .place) (flags .first);
-      flags-paired = judged .0;
+      flags-byte = judged .0;
+      flags-paired = judged .1;
     })
 
 head-read : (s : List ℕ) (at : ℕ) (h : Head) (e : ℕ) → headP s at ≡ got h e → FlagsRead (h .version) (h .flags)
 unfolding headP
 head-read s at h e r =
-    let flags = after-got (flagsP s at) _ r in
+    let flags = after-got (openingP s at) _ r in
     let dates = after-got (datesP s (flags .place)) _ (flags .next) in
     got-is (λ h _. FlagsRead (h .version) (h .flags)) (dates .next)
-    (flags-read s at (flags .value) (flags .place) (flags .first))
+    (opening-read s at (flags .value) (flags .place) (flags .first))
 
 -- ---- serial and algorithms
 
@@ -86,18 +97,20 @@ unfolding byteP
 byte-ends s at n e h = let r = count-read 0 255 s at n e h in (r .there, r .past)
 
 big-ends : (width : ℕ) (s : List ℕ) (at n e : ℕ) → bigP width s at ≡ got n e → e ≡ at + width
-unfolding bigP
-big-ends width s at n e h = got-is (λ _ e. e ≡ at + width) (judged-got (leb (at + width) (length s)) _ 6 h .1) refl
+unfolding bigP bytesP
+big-ends width s at n e h =
+    let bytes = after-got (bytesP width s at) _ h in
+    let ends = got-is (λ _ e. e ≡ at + width) (judged-got (leb (at + width) (length s)) _ 6 (bytes .first) .1) refl in
+    got-is (λ _ e. e ≡ at + width) (bytes .next) ends
 
-flags-ends : (s : List ℕ) (at : ℕ) (v : ℕ × ℕ) (e : ℕ) → flagsP s at ≡ got v e → (at < length s) × (e ≡ at + 2)
-unfolding flagsP
-flags-ends s at v e h =
+opening-ends : (s : List ℕ) (at : ℕ) (v : ℕ × ℕ) (e : ℕ) → openingP s at ≡ got v e → (at < length s) × (e ≡ at + 2)
+unfolding openingP
+opening-ends s at v e h =
     let version = after-got (byteP s at) _ h in
-    let flags = after-got (byteP s (version .place)) _ (version .next) in
-    let judged = judged-got (paired (flags .value)) _ 8 (flags .next) .1 in
+    let flags = after-got (flagsP s (version .place)) _ (version .next) in
     let x = byte-ends s at _ _ (version .first) in
-    let y = byte-ends s (version .place) _ _ (flags .first) in
-    got-is (λ _ e. (at < length s) × (e ≡ at + 2)) judged (x .0, omega (arith, x .1, y .1))
+    let y = byte-ends s (version .place) _ _ (flags-judged s (version .place) _ _ (flags .first) .2) in
+    got-is (λ _ e. (at < length s) × (e ≡ at + 2)) (flags .next) (x .0, omega (arith, x .1, y .1))
 
 dates-ends : (s : List ℕ) (at : ℕ) (v : ℕ × ℕ) (e : ℕ) → datesP s at ≡ got v e → e ≡ at + 16
 unfolding datesP
@@ -110,9 +123,9 @@ dates-ends s at v e h =
 head-ends : (s : List ℕ) (at : ℕ) (h : Head) (e : ℕ) → headP s at ≡ got h e → (at < length s) × (e ≡ at + 18)
 unfolding headP
 head-ends s at h e r =
-    let flags = after-got (flagsP s at) _ r in
+    let flags = after-got (openingP s at) _ r in
     let dates = after-got (datesP s (flags .place)) _ (flags .next) in
-    let x = flags-ends s at _ _ (flags .first) in
+    let x = opening-ends s at _ _ (flags .first) in
     got-is (λ _ e. (at < length s) × (e ≡ at + 18)) (dates .next)
     (x .0, omega (arith, x .1, dates-ends s (flags .place) _ _ (dates .first)))
 

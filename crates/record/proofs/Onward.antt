@@ -6,13 +6,17 @@ use mathlib.Core.Bool.{Bool, true, false, cond}
 use mathlib.Core.List.{List, _∷_}
 use native.Mathlib.Omega.{arith}
 use lib.Dec.{leb}
-use Rattle.fields.specs.Fields.{Parsed, got, stop, after, countP, spanP, stringP, many, countedP, byteP}
+use Rattle.fields.specs.Fields.{Parsed, got, stop, after, countP, stringP, many, countedP, byteP}
+use Rattle.fields.specs.Spans.{spanP}
 use Rattle.fields.proofs.Counts.{count-read}
-use Rattle.fields.proofs.Strings.{span-read}
+use Rattle.fields.proofs.Strings.{span-read, string-by-span}
 use Rattle.names.specs.Names.{attrP, rdnP, nameP, oidMost, valueMost, rdnMost, nameMost}
-use Rattle.lists.specs.Lists.{usageP, usagesP, dnsNameP, dnsNamesP, rowP, usageMost, usagesMost, dnsNameMost, dnsNamesMost}
-use Rattle.extensions.specs.Extensions.{flag, optionP, keyIdsP, pathLengthP, extensionsP, keyIdMost, serialMost}
-use Rattle.record.specs.Record.{stringsP, algorithmMost}
+use Rattle.lists.specs.Lists.{usageP, dnsNameP, usageMost, usagesMost, dnsNameMost, dnsNamesMost}
+use Rattle.lists.specs.Rows.{usagesP, dnsNamesP, rowP}
+use Rattle.extensions.specs.Extensions.{spanIfP, keyIdsP, pathLengthP, extensionsP}
+use Rattle.extensions.specs.Flags.{flag, keyIdMost, serialMost}
+use Rattle.record.specs.Record.{stringsP}
+use Rattle.record.specs.Certificate.{algorithmMost}
 
 -- ---- any things
 
@@ -50,9 +54,8 @@ module _ (s : List ℕ) where
       record { ends = λ p e h. let r = span-read least most s at p e h in omega (arith, r .starts, r .ends, r .ordered) }
 
   string-onward : (least most at : ℕ) → Onward (at + 1) (stringP least most s at)
-  unfolding stringP
   string-onward least most at =
-      onward-after (spanP least most s at) _ (span-onward least most at) (λ p e. onward-got e _ e (omega arith))
+      rw (string-by-span least most s at) (onward-after (spanP least most s at) _ (span-onward least most at) (λ p e. onward-got e _ e (omega arith)))
 
 module _ {A : Type 0} (p : List ℕ → ℕ → Parsed A) (s : List ℕ) (on : (at : ℕ) → Onward at (p s at)) where
   many-onward : (n at : ℕ) → Onward at (many p n s at)
@@ -105,17 +108,17 @@ module _ (s : List ℕ) where
       onward-after (spanP 1 algorithmMost s f) _ (no-earlier (span-onward s 1 algorithmMost f)) (λ r g.
       onward-got g _ g (omega arith))))
 
-  option-onward : (b : Bool) (most at : ℕ) → Onward at (optionP b most s at)
-  unfolding optionP
+  option-onward : (b : Bool) (most at : ℕ) → Onward at (spanIfP b most s at)
+  unfolding spanIfP
   option-onward true most at = no-earlier (span-onward s 1 most at)
   option-onward false most at = onward-got at _ at (omega arith)
 
   pub key-ids-onward : (flags at : ℕ) → Onward at (keyIdsP flags s at)
   unfolding keyIdsP
   key-ids-onward flags at =
-      onward-after (optionP (flag 1 flags) keyIdMost s at) _ (option-onward (flag 1 flags) keyIdMost at) (λ a e.
-      onward-after (optionP (flag 2 flags) serialMost s e) _ (option-onward (flag 2 flags) serialMost e) (λ b f.
-      onward-after (optionP (flag 4 flags) keyIdMost s f) _ (option-onward (flag 4 flags) keyIdMost f) (λ c g.
+      onward-after (spanIfP (flag 1 flags) keyIdMost s at) _ (option-onward (flag 1 flags) keyIdMost at) (λ a e.
+      onward-after (spanIfP (flag 2 flags) serialMost s e) _ (option-onward (flag 2 flags) serialMost e) (λ b f.
+      onward-after (spanIfP (flag 4 flags) keyIdMost s f) _ (option-onward (flag 4 flags) keyIdMost f) (λ c g.
       onward-got g _ g (omega arith))))
 
   pub path-length-onward : (flags at : ℕ) → Onward at (pathLengthP flags s at)

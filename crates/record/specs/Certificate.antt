@@ -1,15 +1,13 @@
--- What a record says of a certificate: byte lists, numbers and options, and nothing of where they stand. Assumes nothing.
+-- A certificate, and how a card file has it: its parts in their order, each with its limits, judged from left to right
+-- (docs/CARD-FILE.md, "Record"). Assumes nothing.
 use Prim.Native.Nat.{ℕ}
-use mathlib.Core.Bool.{Bool, cond}
-use mathlib.Core.List.{List, []}
-use mathlib.Core.Option.{Option, none, some}
-use Rattle.fields.specs.Fields.{Parsed, got, stop, many, bytesOf}
+use mathlib.Core.Bool.{Bool, cond, _&&_, _||_, not}
+use mathlib.Core.List.{List}
+use mathlib.Core.Option.{Option}
+use Rattle.fields.specs.Fields.{Parsed, got, stop, after, byteP, stringP, bigP, countedP, optionalP}
 use Rattle.names.specs.Names.{Attr, nameP}
-use Rattle.lists.specs.Lists.{usageP, dnsNameP}
-use Rattle.extensions.specs.Extensions.{flag}
-use Rattle.record.specs.Parts.{headOf, stringsOf, keyIdsOf, extensionsOf}
-use Rattle.record.specs.declared.head.Head.{Head}
-use Rattle.record.specs.declared.Record.{Record}
+use Rattle.lists.specs.Lists.{usageP, dnsNameP, usagesMost, dnsNamesMost}
+use Rattle.extensions.specs.Flags.{hasAuthorityKeyId, hasAuthoritySerial, hasSubjectKeyId, ca, hasPathLength, hasKeyUsage, maySign, keyIdMost, serialMost}
 
 pub record Certificate : Type 0 where
   pub version : ℕ
@@ -28,39 +26,51 @@ pub record Certificate : Type 0 where
   pub usages : List ℕ
   pub dns-names : List (List ℕ)
 
--- the list that was read; none where it can't be read
-abbrev pub listOf : {A : Type 0} → Parsed (List A) → List A
-listOf (got l e) = l
-listOf (stop r) = []
+-- a path length is a CA's, and who may sign says so by its key usage
+unfoldable pub paired : ℕ → Bool
+paired flags = (not (hasPathLength flags) || ca flags) && (not (maySign flags) || hasKeyUsage flags)
 
--- a part, where its flag is set
-abbrev pub present : {A : Type 0} → Bool → A → Option A
-present b a = cond b (some a) none
+-- flags, judged when they are read
+unfoldable pub flagsP : List ℕ → ℕ → Parsed ℕ
+flagsP s at = after (byteP s at) (λ flags e. cond (paired flags) (got flags e) (stop 8))
 
--- what a head and a record's places say over a file, whatever they are
-unfoldable pub certificateBy : Head → Record → List ℕ → Certificate
-certificateBy head r s =
-    let strings = stringsOf r s in
-    let keyIds = keyIdsOf (head .flags) r s in
-    let rest = extensionsOf (head .flags) r s in
-    record {
-      version = head .version;
-      flags = head .flags;
-      not-before = head .«not_before»;
-      not-after = head .«not_after»;
-      serial = bytesOf (strings .serial) s;
-      outer = bytesOf (strings .outer) s;
-      inner = bytesOf (strings .inner) s;
-      issuer = listOf (nameP s (r .issuer));
-      subject = listOf (nameP s (r .subject));
-      authority-key-id = present (flag 1 (head .flags)) (bytesOf (keyIds .authority) s);
-      authority-serial = present (flag 2 (head .flags)) (bytesOf (keyIds .«authority_serial») s);
-      subject-key-id = present (flag 4 (head .flags)) (bytesOf (keyIds .subject) s);
-      path-length = present (flag 16 (head .flags)) (rest .«path_length»);
-      usages = listOf (many usageP (rest .usages .count) s (rest .usages .first));
-      dns-names = listOf (many dnsNameP (rest .«dns_names» .count) s (rest .«dns_names» .first));
-    }
+-- the most bytes of an algorithm
+abbrev pub algorithmMost : ℕ
+algorithmMost = 32
 
--- what a record says over a file: its own head, and its places
-unfoldable pub certificateOf : Record → List ℕ → Certificate
-certificateOf r s = certificateBy (headOf r s) r s
+unfoldable pub certificateP : List ℕ → ℕ → Parsed Certificate
+certificateP s at =
+    after (byteP s at) (λ version a.
+    after (flagsP s a) (λ flags b.
+    after (bigP 8 s b) (λ notBefore c.
+    after (bigP 8 s c) (λ notAfter d.
+    after (stringP 1 serialMost s d) (λ serial e.
+    after (stringP 1 algorithmMost s e) (λ outer f.
+    after (stringP 1 algorithmMost s f) (λ inner g.
+    after (nameP s g) (λ issuer h.
+    after (nameP s h) (λ subject i.
+    after (optionalP (hasAuthorityKeyId flags) (stringP 1 keyIdMost) s i) (λ authorityKeyId j.
+    after (optionalP (hasAuthoritySerial flags) (stringP 1 serialMost) s j) (λ authoritySerial k.
+    after (optionalP (hasSubjectKeyId flags) (stringP 1 keyIdMost) s k) (λ subjectKeyId l.
+    after (optionalP (hasPathLength flags) byteP s l) (λ pathLength m.
+    after (countedP 0 usagesMost usageP s m) (λ usages n.
+    after (countedP 0 dnsNamesMost dnsNameP s n) (λ dnsNames o.
+    got
+      (record {
+        version = version;
+        flags = flags;
+        not-before = notBefore;
+        not-after = notAfter;
+        serial = serial;
+        outer = outer;
+        inner = inner;
+        issuer = issuer;
+        subject = subject;
+        authority-key-id = authorityKeyId;
+        authority-serial = authoritySerial;
+        subject-key-id = subjectKeyId;
+        path-length = pathLength;
+        usages = usages;
+        dns-names = dnsNames;
+      })
+      o)))))))))))))))

@@ -1,5 +1,5 @@
 -- What stands where nothing was read. Assumes nothing.
-use Rattle.fields.specs.Fields.{nowhere}
+use Rattle.fields.specs.Spans.{nowhere}
 use Rattle.lists.specs.declared.Row.{Row}
 use Rattle.extensions.specs.declared.KeyIds.{KeyIds}
 use Rattle.extensions.specs.declared.Extensions.{Extensions}

@@ -1,5 +1,5 @@
+pub mod Certificate
 pub mod Record
 pub mod Fresh
 pub mod Parts
-pub mod Certificate
 pub mod Answers

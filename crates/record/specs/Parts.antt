@@ -1,11 +1,20 @@
--- What stands at a record's places over a file, whatever they are; nothing where it can't be read. Assumes nothing.
+-- What stands at a record's places over a file, whatever they are, and the certificate that it makes; nothing where it can't be
+-- read. Assumes nothing.
 use Prim.Native.Nat.{ℕ, _+_}
+use mathlib.Core.Bool.{Bool, cond}
 use mathlib.Core.List.{List}
-use Rattle.fields.specs.Fields.{Parsed, got, stop}
+use mathlib.Core.Option.{Option, none, some}
+use Rattle.fields.specs.Fields.{Parsed, got, stop, many}
+use Rattle.fields.specs.Spans.{bytesOf}
 use Rattle.fields.specs.declared.string.Span.{Span}
+use Rattle.names.specs.Names.{nameP}
+use Rattle.lists.specs.Lists.{usageP, dnsNameP}
+use Rattle.lists.specs.Rows.{listOf}
+use Rattle.extensions.specs.Flags.{hasAuthorityKeyId, hasAuthoritySerial, hasSubjectKeyId, hasPathLength}
 use Rattle.extensions.specs.Extensions.{keyIdsP, extensionsP}
 use Rattle.extensions.specs.declared.KeyIds.{KeyIds}
 use Rattle.extensions.specs.declared.Extensions.{Extensions}
+use Rattle.record.specs.Certificate.{Certificate}
 use Rattle.record.specs.Fresh.{no-head, no-strings, no-key-ids, no-extensions}
 use Rattle.record.specs.Record.{headP, stringsP}
 use Rattle.record.specs.declared.head.Head.{Head}
@@ -14,8 +23,8 @@ use Rattle.record.specs.declared.Record.{Record}
 
 -- what was read, or else
 abbrev pub valueOr : {A : Type 0} → A → Parsed A → A
-valueOr none (got a e) = a
-valueOr none (stop r) = none
+valueOr other (got a e) = a
+valueOr other (stop r) = other
 
 unfoldable pub headOf : Record → List ℕ → Head
 headOf r s = valueOr no-head (headP s (r .start))
@@ -36,3 +45,35 @@ issuerSpan r = record { start = r .issuer; end = r .subject }
 
 abbrev pub subjectSpan : Record → Span
 subjectSpan r = record { start = r .subject; end = r .rest }
+
+-- a part, where its flag is set
+abbrev pub present : {A : Type 0} → Bool → A → Option A
+present b a = cond b (some a) none
+
+-- what a head and a record's places say over a file, whatever they are
+unfoldable pub certificateBy : Head → Record → List ℕ → Certificate
+certificateBy head r s =
+    let strings = stringsOf r s in
+    let keyIds = keyIdsOf (head .flags) r s in
+    let rest = extensionsOf (head .flags) r s in
+    record {
+      version = head .version;
+      flags = head .flags;
+      not-before = head .«not_before»;
+      not-after = head .«not_after»;
+      serial = bytesOf (strings .serial) s;
+      outer = bytesOf (strings .outer) s;
+      inner = bytesOf (strings .inner) s;
+      issuer = listOf (nameP s (r .issuer));
+      subject = listOf (nameP s (r .subject));
+      authority-key-id = present (hasAuthorityKeyId (head .flags)) (bytesOf (keyIds .authority) s);
+      authority-serial = present (hasAuthoritySerial (head .flags)) (bytesOf (keyIds .«authority_serial») s);
+      subject-key-id = present (hasSubjectKeyId (head .flags)) (bytesOf (keyIds .subject) s);
+      path-length = present (hasPathLength (head .flags)) (rest .«path_length»);
+      usages = listOf (many usageP (rest .usages .count) s (rest .usages .first));
+      dns-names = listOf (many dnsNameP (rest .«dns_names» .count) s (rest .«dns_names» .first));
+    }
+
+-- what a record says over a file: its own head, and its places
+unfoldable pub certificateOf : Record → List ℕ → Certificate
+certificateOf r s = certificateBy (headOf r s) r s

@@ -1,30 +1,24 @@
--- A record as it stands in a card file: its parts in their order, each with its limits, judged from left to right. What is found are
--- numbers and the places of strings, names and lists (docs/CARD-FILE.md, "Record"). Assumes nothing.
+-- Where a record's parts stand, for readers that copy nothing: in their order, each with its limits, judged from left to right. What is
+-- found are numbers and the places of strings, names and lists. Assumes nothing.
 use Prim.Native.Nat.{ℕ, _+_, _%_}
-use mathlib.Core.Bool.{Bool, cond, _&&_, _||_, not}
 use mathlib.Core.List.{List}
-use Rattle.fields.specs.Fields.{Parsed, got, stop, after, byteP, spanP, bigP}
+use Rattle.fields.specs.Fields.{Parsed, got, after, byteP, bigP}
+use Rattle.fields.specs.Spans.{spanP}
 use Rattle.names.specs.Names.{nameP}
-use Rattle.extensions.specs.Extensions.{flag, extensionsP, serialMost}
+use Rattle.extensions.specs.Flags.{serialMost}
+use Rattle.extensions.specs.Extensions.{extensionsP}
+use Rattle.record.specs.Certificate.{flagsP, algorithmMost}
 use Rattle.record.specs.declared.head.Head.{Head}
 use Rattle.record.specs.declared.strings.Strings.{Strings}
 use Rattle.record.specs.declared.parties.Names.{Names}
 use Rattle.record.specs.declared.Record.{Record}
 
--- ---- the flags byte
-
--- flag 16 needs 8, and 64 needs 32
-unfoldable pub paired : ℕ → Bool
-paired flags = (not (flag 16 flags) || flag 8 flags) && (not (flag 64 flags) || flag 32 flags)
-
--- ---- the parts
-
--- any version, and flags judged when they are read
-unfoldable pub flagsP : List ℕ → ℕ → Parsed (ℕ × ℕ)
-flagsP s at =
+-- version and flags
+unfoldable pub openingP : List ℕ → ℕ → Parsed (ℕ × ℕ)
+openingP s at =
     after (byteP s at) (λ version e.
-    after (byteP s e) (λ flags f.
-    cond (paired flags) (got (version, flags) f) (stop 8)))
+    after (flagsP s e) (λ flags f.
+    got (version, flags) f))
 
 -- not-before and not-after
 unfoldable pub datesP : List ℕ → ℕ → Parsed (ℕ × ℕ)
@@ -35,13 +29,9 @@ datesP s at =
 
 unfoldable pub headP : List ℕ → ℕ → Parsed Head
 headP s at =
-    after (flagsP s at) (λ v e.
+    after (openingP s at) (λ v e.
     after (datesP s e) (λ d f.
     got (record { version = v .0; flags = v .1; «not_before» = d .0; «not_after» = d .1 }) f))
-
--- the most bytes of an algorithm
-abbrev pub algorithmMost : ℕ
-algorithmMost = 32
 
 -- serial 1..20, outer and inner algorithm 1..32 each
 unfoldable pub stringsP : List ℕ → ℕ → Parsed Strings

@@ -7,7 +7,7 @@ use fields::u64_at;
 ghost use mathlib.Core.Path.{_≡_};
 ghost use Rattle.fields.specs.Answers.{counted};
 ghost use Rattle.fields.specs.Fields.{got, after};
-ghost use Rattle.record.specs.Record.{flagsP, datesP, headP};
+ghost use Rattle.record.specs.Record.{openingP, datesP, headP};
 ghost use Rattle.record.specs.Answers.{flagged, dated, headed};
 
 pub struct Head {
@@ -103,7 +103,7 @@ pub(crate) fn flags_past(file: &[u8], at: usize) -> CountAt
 
 // Any version; flags of which 16 needs 8 and 64 needs 32, judged when they are read.
 fn flags_at(file: &[u8], at: usize) -> FlagsAt
-    ensures { λ r. ⌜ flagged r ≡ flagsP (now (file .entry)) at ⌝ }
+    ensures { λ r. ⌜ flagged r ≡ openingP (now (file .entry)) at ⌝ }
 {
     match byte_at(file, at) {
         CountAt::Got {

@@ -9,7 +9,8 @@ use borrow.Author.Tests.{le-leb}
 use lib.ListN.{length, replicate, length-append}
 use Rattle.places.specs.Limits.{bundleMost}
 use Rattle.card.specs.Card.{fileP}
-use Rattle.card.specs.Content.{contentOf, contentP}
+use Rattle.card.specs.Content.{contentP}
+use Rattle.card.specs.Parts.{contentOf}
 use Rattle.card.specs.declared.Card.{Card}
 use Rattle.card.proofs.Sections.{card-read}
 use Rattle.card.proofs.Standing.{bundle-few}

@@ -4,7 +4,8 @@ use mathlib.Core.Bool.{false, false≢true}
 use mathlib.Core.List.{[], _∷_}
 use Rattle.text.specs.Bytes.{lowered, same, startsWith}
 use Rattle.text.specs.Wildcard.{matchName}
-use Rattle.fields.specs.Fields.{countP, spanP, bytesOf, stringP}
+use Rattle.fields.specs.Fields.{countP, stringP}
+use Rattle.fields.specs.Spans.{spanP, bytesOf}
 use Rattle.lists.specs.Lists.{dnsNameP}
 use Rattle.rules.specs.Rules.{names}
 use Rattle.rules.specs.Records.{passes, anyOf, forHostAt}

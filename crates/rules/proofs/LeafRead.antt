@@ -4,8 +4,7 @@ use Prim.Native.Nat.{ℕ}
 use mathlib.Core.Path.{_≡_}
 use mathlib.Core.List.{List}
 use Rattle.lists.specs.Lists.{usageP, dnsNameP}
-use Rattle.record.specs.Certificate.{certificateOf}
-use Rattle.record.specs.Parts.{headOf, extensionsOf}
+use Rattle.record.specs.Parts.{headOf, extensionsOf, certificateOf}
 use Rattle.record.specs.declared.Record.{Record}
 use Rattle.record.proofs.Meaning.{RecordRead, extensions-of, extensions-read-of, says-usages, says-dns-names}
 use Rattle.rules.specs.Rules.{serving, names, forServers, forHost}

@@ -9,9 +9,10 @@ use native.Mathlib.Omega.{arith}
 use lib.Dec.{leb}
 use borrow.Author.Tests.{eq-eqb, ne-eqb, le-leb}
 use Rattle.fields.specs.Fields.{Parsed, got, stop}
-use Rattle.extensions.specs.Extensions.{flag, extensionsP}
-use Rattle.record.specs.Certificate.{Certificate, certificateBy}
-use Rattle.record.specs.Parts.{valueOr, extensionsOf}
+use Rattle.extensions.specs.Extensions.{extensionsP}
+use Rattle.extensions.specs.Flags.{flag}
+use Rattle.record.specs.Certificate.{Certificate}
+use Rattle.record.specs.Parts.{valueOr, extensionsOf, certificateBy}
 use Rattle.record.specs.Fresh.{no-extensions}
 use Rattle.extensions.proofs.Meaning.{extensions-read}
 use Rattle.record.specs.declared.head.Head.{Head}

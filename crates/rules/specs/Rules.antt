@@ -5,7 +5,7 @@ use mathlib.Core.List.{List, map}
 use mathlib.Core.Option.{Option, none, some}
 use lib.Dec.{eqb, leb}
 use lib.ListN.{length}
-use Rattle.extensions.specs.Extensions.{flag}
+use Rattle.extensions.specs.Flags.{flag}
 use Rattle.text.specs.Bytes.{lowered, same}
 use Rattle.text.specs.Each.{any}
 use Rattle.text.specs.Wildcard.{matchName}

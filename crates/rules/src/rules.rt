@@ -6,7 +6,7 @@ use text::equal;
 ghost use mathlib.Core.List.{List};
 ghost use mathlib.Core.Path.{_≡_};
 ghost use Prim.Native.Nat.{ℕ};
-ghost use Rattle.record.specs.Certificate.{certificateBy};
+ghost use Rattle.record.specs.Parts.{certificateBy};
 ghost use Rattle.record.specs.declared.Record.{Record};
 ghost use Rattle.rules.specs.Rules.{at, inDate, wellFormed, handled, authority};
 ghost use Rattle.rules.specs.Limits.{limitOf};

@@ -8,7 +8,8 @@ use lib.ListN.{length}
 use Rattle.text.specs.Bytes.{same}
 use Rattle.text.specs.Normal.{normal}
 use Rattle.text.proofs.Same.{same-sound, same-refl}
-use Rattle.fields.specs.Fields.{got, bytesOf}
+use Rattle.fields.specs.Fields.{got}
+use Rattle.fields.specs.Spans.{bytesOf}
 use Rattle.fields.specs.declared.string.Span.{Span}
 use Rattle.names.specs.Names.{Attr, nameP}
 use Rattle.names.proofs.Alike.{bytes-alike}

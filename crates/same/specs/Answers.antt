@@ -2,7 +2,8 @@
 use Prim.Native.Nat.{ℕ}
 use mathlib.Core.Bool.{Bool, false, cond, _||_}
 use mathlib.Core.List.{List}
-use Rattle.fields.specs.Fields.{Parsed, got, stop, bytesOf}
+use Rattle.fields.specs.Fields.{Parsed, got, stop}
+use Rattle.fields.specs.Spans.{bytesOf}
 use Rattle.fields.specs.declared.string.Span.{Span}
 use Rattle.text.specs.Bytes.{same}
 use Rattle.names.specs.Names.{nameP}

@@ -4,11 +4,13 @@ use mathlib.Core.Path.{_≡_}
 use mathlib.Core.List.{List}
 use native.Mathlib.Omega.{arith}
 use lib.ListN.{length}
-use Rattle.fields.specs.Fields.{got, spanP}
+use Rattle.fields.specs.Fields.{got}
+use Rattle.fields.specs.Spans.{spanP}
 use Rattle.fields.specs.declared.string.Span.{Span}
 use Rattle.fields.proofs.After.{after-got, got-is}
 use Rattle.fields.proofs.Strings.{SpanRead, span-read}
-use Rattle.task.specs.Task.{timesP, purposeP, taskP, hostMost}
+use Rattle.task.specs.Task.{purposeP, hostMost}
+use Rattle.task.specs.Placed.{timesP, taskP}
 use Rattle.task.specs.declared.Task.{Task}
 
 -- the host was read, and e is the place past it

@@ -4,7 +4,7 @@ use mathlib.Core.Path.{_≡_, ap}
 use Rattle.fields.specs.Answers.{held, Emptied}
 use Rattle.fields.specs.declared.Past.{Past}
 use Rattle.fields.proofs.Pinned.{held-pins}
-use Rattle.task.specs.Task.{fresh-task}
+use Rattle.task.specs.Placed.{fresh-task}
 use Rattle.task.specs.declared.Task.{Task}
 use Rattle.task.specs.declared.TaskRead.{TaskRead}
 

@@ -1,2 +1,3 @@
 pub mod Task
+pub mod Placed
 pub mod Answers

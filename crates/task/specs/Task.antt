@@ -1,20 +1,9 @@
--- The task of a card file: how it stands in a file, after its count (docs/CARD-FILE.md, "Layout"). What is found are numbers and the
--- host's place in the file. Assumes nothing.
+-- The purpose and the host's limit in the task of a card file (docs/CARD-FILE.md, "Layout"). Assumes nothing.
 use Prim.Native.Nat.{ℕ}
 use mathlib.Core.Bool.{cond}
 use mathlib.Core.List.{List}
 use lib.Dec.{eqb}
-use Rattle.fields.specs.Fields.{Parsed, got, stop, after, countP, spanP, nowhere, bigP, byteP}
-use Rattle.task.specs.declared.Host.{Host}
-use Rattle.task.specs.declared.Task.{Task}
-
--- count byte 1; now and budget, a u64 each
-unfoldable pub timesP : List ℕ → ℕ → Parsed (ℕ × ℕ)
-timesP s at =
-    after (countP 1 1 s at) (λ _ e.
-    after (bigP 8 s e) (λ now f.
-    after (bigP 8 s f) (λ budget g.
-    got (now, budget) g)))
+use Rattle.fields.specs.Fields.{Parsed, got, stop, after, byteP}
 
 -- purpose byte 0 (server)
 unfoldable pub purposeP : List ℕ → ℕ → Parsed ℕ
@@ -23,19 +12,3 @@ purposeP s at = after (byteP s at) (λ purpose e. cond (eqb purpose 0) (got purp
 -- the most bytes of a host
 abbrev pub hostMost : ℕ
 hostMost = 253
-
--- the task: its count, now, budget, purpose, and a host of 0..253 bytes
-unfoldable pub taskP : List ℕ → ℕ → Parsed Task
-taskP s at =
-    after (timesP s at) (λ t e.
-    after (purposeP s e) (λ _ f.
-    after (spanP 0 hostMost s f) (λ host g.
-    got (record { now = t .0; budget = t .1; host = record { name = host } }) g)))
-
--- ---- what stands where nothing was read
-
-abbrev pub fresh-host : Host
-fresh-host = record { name = nowhere }
-
-abbrev pub fresh-task : Task
-fresh-task = record { now = 0; budget = 0; host = fresh-host }

@@ -13,7 +13,8 @@ use fields::u64_at;
 ghost use mathlib.Core.Path.{_≡_};
 ghost use Rattle.fields.specs.Fields.{stop, after};
 ghost use Rattle.fields.specs.Answers.{number, passed, passing, held, Emptied};
-ghost use Rattle.task.specs.Task.{timesP, purposeP, taskP, fresh-host, fresh-task};
+ghost use Rattle.task.specs.Task.{purposeP};
+ghost use Rattle.task.specs.Placed.{timesP, taskP, fresh-host, fresh-task};
 ghost use Rattle.task.specs.Answers.{timed};
 
 // The host that is asked; none where its name has no bytes.

@@ -6,7 +6,7 @@ use mathlib.Core.List.{List}
 use lib.ListN.{length, getD, List·getD-eq-default}
 use lib.Dec.{eqb}
 use borrow.Author.Tests.{lt-ltb, le-ltb}
-use Rattle.verdicts.specs.Verdicts.{signedAt, rootSigned, bundleSigned}
+use Rattle.verdicts.specs.Grid.{signedAt, rootSigned, bundleSigned}
 use Rattle.verdicts.specs.declared.Verdicts.{Verdicts}
 
 module _ (v : Verdicts) (s : List ℕ) where

@@ -4,7 +4,7 @@ use mathlib.Core.Path.{_≡_, ap}
 use Rattle.fields.specs.Answers.{held, Emptied}
 use Rattle.fields.specs.declared.Past.{Past}
 use Rattle.fields.proofs.Pinned.{held-pins}
-use Rattle.verdicts.specs.Verdicts.{fresh-verdicts}
+use Rattle.verdicts.specs.Grid.{fresh-verdicts}
 use Rattle.verdicts.specs.declared.Verdicts.{Verdicts}
 use Rattle.verdicts.specs.declared.VerdictsRead.{VerdictsRead}
 

@@ -12,7 +12,8 @@ use Rattle.fields.specs.Fields.{Parsed, got, bigP, many, byteP}
 use Rattle.fields.proofs.After.{after-got, judged-got, got-is}
 use Rattle.fields.proofs.Counts.{count-read}
 use Rattle.fields.proofs.Many.{many-length}
-use Rattle.verdicts.specs.Verdicts.{verdictP, verdictsP}
+use Rattle.verdicts.specs.Verdicts.{verdictP}
+use Rattle.verdicts.specs.Grid.{gridP}
 use Rattle.verdicts.specs.declared.Verdicts.{Verdicts}
 
 -- ---- as many as are asked
@@ -26,8 +27,8 @@ pub record RowsRead (roots bundle : ℕ) (s : List ℕ) (v : Verdicts) (e : ℕ)
   pub as-many : length list ≡ (v .roots + v .bundle) * v .bundle
 
 module _ (roots bundle : ℕ) (s : List ℕ) (at : ℕ) (v : Verdicts) (e : ℕ) where
-  pub rows-read : verdictsP roots bundle s at ≡ got v e → RowsRead roots bundle s v e
-  unfolding verdictsP
+  pub rows-read : gridP roots bundle s at ≡ got v e → RowsRead roots bundle s v e
+  unfolding gridP
   rows-read h =
       let count = after-got (bigP 2 s at) _ h in
       let judged = judged-got (eqb (count .value) ((roots + bundle) * bundle)) _ 7 (count .next) in

@@ -1,39 +1,14 @@
--- The verdicts of a card file: how they stand in a file, after their count, and the verdict on an issuer and a subject
--- (docs/CARD-FILE.md, "Layout"). What is found are numbers and a place in the file. Assumes nothing.
+-- The verdicts of a card file: who signed whom, after their count (docs/CARD-FILE.md, "Layout"). Assumes nothing.
 use Prim.Native.Nat.{ℕ, _+_, _*_}
-use mathlib.Core.Bool.{Bool, cond, _&&_}
+use mathlib.Core.Bool.{cond}
 use mathlib.Core.List.{List}
-use lib.Dec.{eqb, leb, ltb}
-use lib.ListN.{getD}
+use lib.Dec.{eqb, leb}
 use Rattle.fields.specs.Fields.{Parsed, got, stop, after, bigP, many, byteP}
-use Rattle.verdicts.specs.declared.Verdicts.{Verdicts}
 
 -- a verdict: byte 0 or 1, judged when it is read
 unfoldable pub verdictP : List ℕ → ℕ → Parsed ℕ
 verdictP s at = after (byteP s at) (λ v e. cond (leb v 1) (got v e) (stop 8))
 
 -- count u16, equal to (roots + bundle) × bundle; then so many verdicts
-unfoldable pub verdictsP : ℕ → ℕ → List ℕ → ℕ → Parsed Verdicts
-verdictsP roots bundle s at =
-    after (bigP 2 s at) (λ n e.
-    cond (eqb n ((roots + bundle) * bundle))
-    (after (many verdictP n s e) (λ _ f. got (record { roots = roots; bundle = bundle; first = e }) f))
-    (stop 7))
-
--- what stands where nothing was read
-abbrev pub fresh-verdicts : Verdicts
-fresh-verdicts = record { roots = 0; bundle = 0; first = 0 }
-
--- ---- by place
-
--- row and column of the verdicts hold a 1: no where the file has no such place
-unfoldable pub signedAt : Verdicts → List ℕ → ℕ → ℕ → Bool
-signedAt v s row column = ltb column (v .bundle) && eqb (getD s (v .first + (row * v .bundle + column)) 0) 1
-
--- root place i signed bundle place j: one row per issuer (roots first), one column per bundle subject
-unfoldable pub rootSigned : Verdicts → List ℕ → ℕ → ℕ → Bool
-rootSigned v s i j = ltb i (v .roots) && signedAt v s i j
-
--- bundle place i signed bundle place j
-unfoldable pub bundleSigned : Verdicts → List ℕ → ℕ → ℕ → Bool
-bundleSigned v s i j = ltb i (v .bundle) && signedAt v s (v .roots + i) j
+unfoldable pub verdictsP : ℕ → ℕ → List ℕ → ℕ → Parsed (List ℕ)
+verdictsP roots bundle s at = after (bigP 2 s at) (λ n e. cond (eqb n ((roots + bundle) * bundle)) (many verdictP n s e) (stop 7))

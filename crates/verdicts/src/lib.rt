@@ -11,7 +11,8 @@ ghost use Prim.Native.Nat.{_+_, _*_, _≤_};
 ghost use lib.ListN.{length};
 ghost use Rattle.fields.specs.Fields.{got, stop, after, many};
 ghost use Rattle.fields.specs.Answers.{number, passed, held, Emptied};
-ghost use Rattle.verdicts.specs.Verdicts.{verdictP, verdictsP, fresh-verdicts, signedAt, rootSigned, bundleSigned};
+ghost use Rattle.verdicts.specs.Verdicts.{verdictP};
+ghost use Rattle.verdicts.specs.Grid.{gridP, fresh-verdicts, signedAt, rootSigned, bundleSigned};
 ghost use Rattle.verdicts.specs.Parts.{anyAboveYes};
 
 // Verdicts on so many roots and so large a bundle, from the first one on.
@@ -97,7 +98,7 @@ pub struct VerdictsRead {
 
 // The verdicts where the bundle ends.
 pub fn verdicts_after(file: &[u8], past: Past, roots: u8, bundle: u8) -> VerdictsRead
-    ensures { λ r. ⌜ held (r .past) (r .verdicts) ≡ after (passed past) (λ _ at. verdictsP roots bundle (now (file .entry)) at) ⌝ }
+    ensures { λ r. ⌜ held (r .past) (r .verdicts) ≡ after (passed past) (λ _ at. gridP roots bundle (now (file .entry)) at) ⌝ }
     ensures { λ r. ⌜ Emptied (r .past) (r .verdicts) fresh-verdicts ⌝ }
 {
     match past {

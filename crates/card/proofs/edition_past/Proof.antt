@@ -3,7 +3,7 @@ use borrow.Author.Tests.{le-leb, lt-leb, eq-eqb, ne-eqb}
 use borrow.Author.Needs.{needs}
 use mathlib.Core.Path.{sym, ap, _∙_}
 use Rattle.fields.specs.Answers.{counted}
-use Rattle.card.specs.Card.{editionP}
+use Rattle.card.specs.Content.{editionP}
 use Rattle.card.proofs.edition_past.Statement.{statement}
 use Rattle.card.proofs.edition_past.Tie as tie
 

@@ -3,7 +3,8 @@
 use borrow.Author.Needs.{needs}
 use mathlib.Core.Path.{sym, ap, _∙_}
 use native.Mathlib.Nat.{div-one}
-use Rattle.extensions.specs.Extensions.{flag, keyIdsP}
+use Rattle.extensions.specs.Extensions.{keyIdsP}
+use Rattle.extensions.specs.Flags.{flag}
 use Rattle.extensions.specs.Answers.{opted}
 use Rattle.extensions.proofs.key_ids_at.Statement.{statement}
 use Rattle.extensions.proofs.key_ids_at.Tie as tie

@@ -2,7 +2,7 @@
 use borrow.Author.Needs.{needs}
 use mathlib.Core.Path.{sym, ap, _∙_}
 use Rattle.fields.specs.Answers.{spanned}
-use Rattle.extensions.specs.Extensions.{optionP}
+use Rattle.extensions.specs.Extensions.{spanIfP}
 use Rattle.extensions.proofs.option_at.Statement.{statement}
 use Rattle.extensions.proofs.option_at.Tie as tie
 
@@ -13,7 +13,7 @@ enum-known-span : tie.Need-enum-known-span
 enum-known-span c = search needs
 
 returns : tie.Need-returns
-unfolding optionP
+unfolding spanIfP
 returns c =
     let x = c .before .before .before in
     rw (x .before .if1 .taken, sym (x .string-at .ensures) ∙ ap spanned (c .before .span .given .1))
@@ -22,13 +22,13 @@ enum-known-fault : tie.Need-enum-known-fault
 enum-known-fault c = search needs
 
 returns-2 : tie.Need-returns-2
-unfolding optionP
+unfolding spanIfP
 returns-2 c =
     let x = c .before .before .before in
     rw (x .before .if1 .taken, sym (x .string-at .ensures) ∙ ap spanned (c .before .fault .given .1))
 
 returns-3 : tie.Need-returns-3
-unfolding optionP
+unfolding spanIfP
 returns-3 c = rw (c .if1 .left)
 
 pub option-at-spec : {M : Type 1} → statement M

@@ -2,7 +2,8 @@
 use borrow.Author.Tests.{eq-eqb, ne-eqb}
 use borrow.Author.Needs.{needs}
 use mathlib.Core.Path.{_∙_}
-use Rattle.extensions.specs.Extensions.{flag, pathLengthP}
+use Rattle.extensions.specs.Extensions.{pathLengthP}
+use Rattle.extensions.specs.Flags.{flag}
 use Rattle.extensions.proofs.path_length_at.Statement.{statement}
 use Rattle.extensions.proofs.path_length_at.Tie as tie
 

@@ -3,7 +3,8 @@ use borrow.Author.Needs.{needs}
 use mathlib.Core.Path.{sym, ap, _∙_}
 use Rattle.fields.specs.Answers.{passed, spanned, held}
 use Rattle.fields.proofs.Held.{after-end}
-use Rattle.task.specs.Task.{purposeP, taskP}
+use Rattle.task.specs.Task.{purposeP}
+use Rattle.task.specs.Placed.{taskP}
 use Rattle.task.specs.Answers.{timed}
 use Rattle.task.proofs.task_at.Statement.{statement}
 use Rattle.task.proofs.task_at.Tie as tie

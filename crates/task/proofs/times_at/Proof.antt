@@ -2,7 +2,7 @@
 use borrow.Author.Needs.{needs}
 use mathlib.Core.Path.{sym, ap, _∙_}
 use Rattle.fields.specs.Answers.{counted, numbered}
-use Rattle.task.specs.Task.{timesP}
+use Rattle.task.specs.Placed.{timesP}
 use Rattle.task.proofs.times_at.Statement.{statement}
 use Rattle.task.proofs.times_at.Tie as tie
 

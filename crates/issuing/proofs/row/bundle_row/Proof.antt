@@ -5,7 +5,7 @@ use mathlib.Core.Logic.{⊎-elim}
 use mathlib.Core.Path.{_≡_, _∙_}
 use Rattle.record.specs.declared.Record.{Record}
 use Rattle.certificates.specs.Certificates.{recordOf}
-use Rattle.verdicts.specs.Verdicts.{bundleSigned}
+use Rattle.verdicts.specs.Grid.{bundleSigned}
 use Rattle.issuing.specs.Records.{claimOf}
 use Rattle.issuing.proofs.Turns.{RowTo, row-starts, row-joined, row-unlikely, row-unsigned, row-whole}
 use Rattle.issuing.proofs.row.bundle_row.Statement.{statement}

@@ -4,7 +4,8 @@ use mathlib.Core.Path.{sym, ap, _∙_}
 use Rattle.fields.specs.Fields.{many}
 use Rattle.fields.specs.Answers.{counted, passed}
 use Rattle.fields.proofs.Ends.{passing-stops, passing-got}
-use Rattle.lists.specs.Lists.{dnsNameP, rowP}
+use Rattle.lists.specs.Lists.{dnsNameP}
+use Rattle.lists.specs.Rows.{rowP}
 use Rattle.lists.proofs.dns_names.dns_names_at.Statement.{statement}
 use Rattle.lists.proofs.dns_names.dns_names_at.Tie as tie
 

@@ -4,7 +4,8 @@ use mathlib.Core.Path.{sym, ap, _∙_}
 use Rattle.fields.specs.Fields.{many}
 use Rattle.fields.specs.Answers.{counted, passed}
 use Rattle.fields.proofs.Ends.{passing-stops, passing-got}
-use Rattle.lists.specs.Lists.{usageP, rowP}
+use Rattle.lists.specs.Lists.{usageP}
+use Rattle.lists.specs.Rows.{rowP}
 use Rattle.lists.proofs.usages.usages_at.Statement.{statement}
 use Rattle.lists.proofs.usages.usages_at.Tie as tie
 

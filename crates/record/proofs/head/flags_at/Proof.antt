@@ -3,7 +3,8 @@
 use mathlib.Core.Path.{sym, ap, _∙_}
 use borrow.Author.Tests.{lt-ltb, le-ltb}
 use Rattle.fields.specs.Answers.{counted}
-use Rattle.record.specs.Record.{flagsP}
+use Rattle.record.specs.Certificate.{flagsP}
+use Rattle.record.specs.Record.{openingP}
 use Rattle.record.proofs.Flags.{paired-test}
 use borrow.Author.Needs.{needs}
 use Rattle.record.proofs.head.flags_at.Statement.{statement}
@@ -22,7 +23,7 @@ enum-known-flags : tie.Need-enum-known-flags
 enum-known-flags c = search needs
 
 returns : tie.Need-returns
-unfolding flagsP
+unfolding openingP flagsP
 returns c =
     let t = c .before .before .before .before in
     let v = t .before .before in
@@ -34,7 +35,7 @@ returns c =
     )
 
 returns-2 : tie.Need-returns-2
-unfolding flagsP
+unfolding openingP flagsP
 returns-2 c =
     let t = c .before .before .before .before .before in
     let v = t .before .before in
@@ -47,7 +48,7 @@ returns-2 c =
     )
 
 returns-3 : tie.Need-returns-3
-unfolding flagsP
+unfolding openingP flagsP
 returns-3 c =
     let t = c .before .before .before .before .before in
     let v = t .before .before in
@@ -63,7 +64,7 @@ enum-known-fault : tie.Need-enum-known-fault
 enum-known-fault c = search needs
 
 returns-4 : tie.Need-returns-4
-unfolding flagsP
+unfolding openingP flagsP
 returns-4 c =
     let t = c .before .before .before in
     let v = t .before .before in
@@ -76,7 +77,7 @@ enum-known-fault-2 : tie.Need-enum-known-fault-2
 enum-known-fault-2 c = search needs
 
 returns-5 : tie.Need-returns-5
-unfolding flagsP
+unfolding openingP flagsP
 returns-5 c = rw (sym (c .before .before .before .byte-at .ensures) ∙ ap counted (c .before .fault2 .given .1))
 
 pub flags-at-spec : {M : Type 1} → statement M

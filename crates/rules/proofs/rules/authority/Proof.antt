@@ -1,7 +1,7 @@
 -- `authority` answers whether flag 8 is set, and 64 where 32 is. Assumes nothing.
 use borrow.Author.Tests.{eq-eqb, ne-eqb}
-use Rattle.extensions.specs.Extensions.{flag}
-use Rattle.record.specs.Certificate.{certificateBy}
+use Rattle.extensions.specs.Flags.{flag}
+use Rattle.record.specs.Parts.{certificateBy}
 use Rattle.rules.specs.Rules.{authority}
 use Rattle.rules.proofs.rules.authority.Statement.{statement}
 use Rattle.rules.proofs.rules.authority.Tie as tie

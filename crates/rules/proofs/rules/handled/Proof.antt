@@ -1,7 +1,7 @@
 -- `handled` answers whether flag 128 is not set. Assumes nothing.
 use mathlib.Core.Path.{refl}
-use Rattle.extensions.specs.Extensions.{flag}
-use Rattle.record.specs.Certificate.{certificateBy}
+use Rattle.extensions.specs.Flags.{flag}
+use Rattle.record.specs.Parts.{certificateBy}
 use Rattle.rules.specs.Rules.{handled}
 use Rattle.rules.proofs.rules.handled.Statement.{statement}
 use Rattle.rules.proofs.rules.handled.Tie as tie

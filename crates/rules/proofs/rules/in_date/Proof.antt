@@ -1,6 +1,6 @@
 -- `in_date` answers whether a time lies between a certificate's two dates, by the record's numbers. Assumes nothing.
 use borrow.Author.Tests.{le-leb, lt-leb}
-use Rattle.record.specs.Certificate.{certificateBy}
+use Rattle.record.specs.Parts.{certificateBy}
 use Rattle.rules.specs.Rules.{inDate}
 use Rattle.rules.proofs.rules.in_date.Statement.{statement}
 use Rattle.rules.proofs.rules.in_date.Tie as tie

@@ -2,7 +2,7 @@
 use mathlib.Core.Path.{_∙_}
 use borrow.Author.Tests.{eq-eqb, ne-eqb}
 use borrow.Author.Needs.{needs}
-use Rattle.record.specs.Certificate.{certificateBy}
+use Rattle.record.specs.Parts.{certificateBy}
 use Rattle.rules.specs.Rules.{wellFormed}
 use Rattle.rules.proofs.rules.well_formed.Statement.{statement}
 use Rattle.rules.proofs.rules.well_formed.Tie as tie

@@ -3,7 +3,7 @@
 use mathlib.Core.Path.{_≡_, _∙_}
 use denote.Ref.{now}
 use borrow.Author.Tests.{not-true, not-false}
-use Rattle.fields.specs.Fields.{bytesOf}
+use Rattle.fields.specs.Spans.{bytesOf}
 use Rattle.text.specs.Bytes.{same}
 use Rattle.same.proofs.Compared.{parts-compared, oids-differ, values-equal, forms-compared, values-differ}
 use borrow.Author.Needs.{needs}
