@@ -7,3 +7,4 @@ pub mod Signed
 pub mod Standing
 pub mod Stops
 pub mod Two
+pub mod Values

@@ -10,7 +10,7 @@ use lib.ListN.{length, getD, take, length-take, length-map, List·getD-eq-defaul
 use lib.Seq.{length-take-le, getD-take}
 use borrow.Author.Tests.{ltb-true, ltb-false}
 use Rattle.places.specs.Limits.{rootsMost, bundleMost}
-use Rattle.lists.specs.Rows.{listOf}
+use Rattle.fields.specs.Spans.{listOf}
 use Rattle.record.specs.Parts.{certificateOf}
 use Rattle.record.specs.Fresh.{fresh}
 use Rattle.record.specs.declared.Record.{Record}

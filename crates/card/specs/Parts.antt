@@ -3,8 +3,7 @@ use Prim.Native.Nat.{ℕ, _+_, _*_}
 use mathlib.Core.List.{List, map}
 use lib.ListN.{take}
 use Rattle.fields.specs.Fields.{many}
-use Rattle.fields.specs.Spans.{bytesOf}
-use Rattle.lists.specs.Rows.{listOf}
+use Rattle.fields.specs.Spans.{bytesOf, listOf}
 use Rattle.record.specs.Certificate.{Certificate}
 use Rattle.record.specs.Parts.{certificateOf}
 use Rattle.record.specs.declared.Record.{Record}

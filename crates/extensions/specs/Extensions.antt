@@ -3,6 +3,7 @@
 use Prim.Native.Nat.{ℕ}
 use mathlib.Core.Bool.{Bool, cond}
 use mathlib.Core.List.{List}
+use mathlib.Core.Option.{Option, none, some}
 use Rattle.fields.specs.Fields.{Parsed, got, after, byteP}
 use Rattle.fields.specs.Spans.{spanP, nowhere}
 use Rattle.fields.specs.declared.string.Span.{Span}
@@ -11,7 +12,11 @@ use Rattle.extensions.specs.Flags.{hasAuthorityKeyId, hasAuthoritySerial
 use Rattle.extensions.specs.declared.KeyIds.{KeyIds}
 use Rattle.extensions.specs.declared.Extensions.{Extensions}
 
--- a string of 1 to so many bytes where its flag is set
+-- a part, where its flag is set
+abbrev pub present : {A : Type 0} → Bool → A → Option A
+present b a = cond b (some a) none
+
+-- where a string of 1 to so many bytes stands, where its flag is set
 unfoldable pub spanIfP : Bool → ℕ → List ℕ → ℕ → Parsed Span
 spanIfP present most s at = cond present (spanP 1 most s at) (got nowhere at)
 

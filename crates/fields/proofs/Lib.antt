@@ -8,3 +8,4 @@ pub mod Held
 pub mod Many
 pub mod Pinned
 pub mod Strings
+pub mod Values

@@ -1,4 +1,4 @@
--- Where a string stands, for readers that copy nothing: its span, and the bytes of a span. Assumes nothing.
+-- Where a string stands, for readers that copy nothing: its span, the bytes of a span, and a list that is read again. Assumes nothing.
 use Prim.Native.Nat.{ℕ, _+_, _-_}
 use mathlib.Core.Bool.{cond, _&&_}
 use mathlib.Core.List.{List, []}
@@ -20,3 +20,8 @@ bytesOf p s = cond (leb (p .start) (p .end) && leb (p .end) (length s)) (take (p
 -- the span of a part that is not there
 abbrev pub nowhere : Span
 nowhere = record { start = 0; end = 0 }
+
+-- the list that was read; none where it can't be read
+abbrev pub listOf : {A : Type 0} → Parsed (List A) → List A
+listOf (got l e) = l
+listOf (stop r) = []

@@ -11,9 +11,10 @@ use Rattle.fields.specs.declared.string.Span.{Span}
 use Rattle.same.specs.Answers.{sameNames}
 use Rattle.keys.specs.AuthKeyId.{given, checkAuthKeyId}
 use Rattle.extensions.specs.Flags.{flag}
+use Rattle.extensions.specs.Extensions.{present}
 use Rattle.extensions.specs.declared.KeyIds.{KeyIds}
 use Rattle.record.specs.declared.strings.Strings.{Strings}
-use Rattle.record.specs.Parts.{headOf, stringsOf, keyIdsOf, issuerSpan, subjectSpan, certificateBy, certificateOf, present}
+use Rattle.record.specs.Parts.{headOf, stringsOf, keyIdsOf, issuerSpan, subjectSpan, certificateBy, certificateOf}
 use Rattle.record.specs.declared.Record.{Record}
 use Rattle.issuing.specs.Issued.{keysFit}
 use Rattle.issuing.specs.Records.{claimOf, likelyIssuedAt}

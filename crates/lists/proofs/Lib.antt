@@ -2,3 +2,4 @@ pub mod Items
 pub mod Meaning
 pub mod Pinned
 pub mod Rows
+pub mod Values

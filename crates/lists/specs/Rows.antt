@@ -2,7 +2,7 @@
 -- thing of a list. Assumes nothing.
 use Prim.Native.Nat.{ℕ}
 use mathlib.Core.Bool.{cond}
-use mathlib.Core.List.{List, []}
+use mathlib.Core.List.{List}
 use lib.Dec.{ltb}
 use Rattle.fields.specs.Fields.{Parsed, got, stop, after, countP, many}
 use Rattle.fields.specs.Spans.{spanP}
@@ -32,8 +32,3 @@ dnsNamesP = rowP dnsNamesMost dnsNameP
 -- thing i of a list, by q, where those before it are read by p; a bad count where the list is shorter
 unfoldable pub itemP : {A B : Type 0} → (List ℕ → ℕ → Parsed A) → (List ℕ → ℕ → Parsed B) → Row → ℕ → List ℕ → Parsed B
 itemP p q row i s = cond (ltb i (row .count)) (after (many p i s (row .first)) (λ _ e. q s e)) (stop 7)
-
--- the list that was read; none where it can't be read
-abbrev pub listOf : {A : Type 0} → Parsed (List A) → List A
-listOf (got l e) = l
-listOf (stop r) = []

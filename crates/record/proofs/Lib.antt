@@ -5,3 +5,4 @@ pub mod Frauds
 pub mod Items
 pub mod Meaning
 pub mod Pinned
+pub mod Values

@@ -9,13 +9,13 @@ use native.Mathlib.Omega.{arith}
 use lib.Dec.{leb}
 use lib.ListN.{length}
 use Rattle.fields.specs.Fields.{got, byteP, bigP, countP, countedP, many, bytesP}
-use Rattle.fields.specs.Spans.{spanP}
+use Rattle.fields.specs.Spans.{spanP, listOf}
 use Rattle.fields.proofs.After.{after-got, judged-got, got-is}
 use Rattle.fields.proofs.Counts.{byte-few, count-read}
 use Rattle.fields.proofs.Strings.{SpanRead, span-read}
 use Rattle.names.specs.Names.{Attr, nameP, nameMost}
 use Rattle.lists.specs.Lists.{usageP, dnsNameP, usagesMost}
-use Rattle.lists.specs.Rows.{usagesP, rowP, listOf}
+use Rattle.lists.specs.Rows.{usagesP, rowP}
 use Rattle.extensions.specs.Extensions.{keyIdsP, pathLengthP, extensionsP}
 use Rattle.extensions.specs.Flags.{serialMost}
 use Rattle.extensions.specs.declared.Extensions.{Extensions}
@@ -120,7 +120,7 @@ dates-ends s at v e h =
     got-is (λ _ e. e ≡ at + 16) (last .next)
     (omega (arith, big-ends 8 s at _ _ (before .first), big-ends 8 s (before .place) _ _ (last .first)))
 
-head-ends : (s : List ℕ) (at : ℕ) (h : Head) (e : ℕ) → headP s at ≡ got h e → (at < length s) × (e ≡ at + 18)
+pub head-ends : (s : List ℕ) (at : ℕ) (h : Head) (e : ℕ) → headP s at ≡ got h e → (at < length s) × (e ≡ at + 18)
 unfolding headP
 head-ends s at h e r =
     let flags = after-got (openingP s at) _ r in
@@ -166,26 +166,35 @@ stays : (s : List ℕ) (at : ℕ) → length s ≤ placeMost → at < length s �
 stays s at l h = mod-eq-of-lt (omega arith)
 
 module _ (s : List ℕ) (few : length s ≤ placeMost) where
+  -- the places of what was read are kept as they are
+  pub placed-is : (at f g k e : ℕ) (h : Head) (i j : List (List Attr)) (x : Extensions)
+      → headP s at ≡ got h (at + 18) → nameP s f ≡ got i g → nameP s g ≡ got j k → extensionsP (h .flags) s k ≡ got x e
+      → placed at f g k ≡ record { start = at; issuer = f; subject = g; rest = k }
+  placed-is at f g k e h i j x head issuer subject extensions =
+      rw (
+        stays s at few (head-ends s at h (at + 18) head .0),
+        stays s f few (name-there s f i g issuer),
+        stays s g few (name-there s g j k subject),
+        stays s k few (extensions-there (h .flags) s k x e extensions),
+      )
+
   placed-read : (at f g k e : ℕ) (h : Head) (t : Strings) (i j : List (List Attr)) (x : Extensions)
       → headP s at ≡ got h (at + 18) → stringsP s (at + 18) ≡ got t f → nameP s f ≡ got i g → nameP s g ≡ got j k
       → extensionsP (h .flags) s k ≡ got x e → RecordRead s (placed at f g k) e
   placed-read at f g k e h t i j x head strings issuer subject extensions =
-      let a = stays s at few (head-ends s at h (at + 18) head .0) in
-      let b = stays s f few (name-there s f i g issuer) in
-      let c = stays s g few (name-there s g j k subject) in
-      let d = stays s k few (extensions-there (h .flags) s k x e extensions) in
-      record {
+      rw (placed-is at f g k e h i j x head issuer subject extensions)
+      (record {
         head-is = h;
         strings-are = t;
         issuer-name = i;
         subject-name = j;
         extensions-are = x;
-        head = rw a head;
-        strings = rw (a, b) strings;
-        issuer = rw (b, c) issuer;
-        subject = rw (c, d) subject;
-        extensions = rw d extensions;
-      }
+        head = head;
+        strings = strings;
+        issuer = issuer;
+        subject = subject;
+        extensions = extensions;
+      })
 
   pub record-read : (at : ℕ) (r : Record) (e : ℕ) → recordP s at ≡ got r e → RecordRead s r e
   unfolding recordP namesP

@@ -1,17 +1,14 @@
 -- What stands at a record's places over a file, whatever they are, and the certificate that it makes; nothing where it can't be
 -- read. Assumes nothing.
 use Prim.Native.Nat.{ℕ, _+_}
-use mathlib.Core.Bool.{Bool, cond}
 use mathlib.Core.List.{List}
-use mathlib.Core.Option.{Option, none, some}
 use Rattle.fields.specs.Fields.{Parsed, got, stop, many}
-use Rattle.fields.specs.Spans.{bytesOf}
+use Rattle.fields.specs.Spans.{bytesOf, listOf}
 use Rattle.fields.specs.declared.string.Span.{Span}
 use Rattle.names.specs.Names.{nameP}
 use Rattle.lists.specs.Lists.{usageP, dnsNameP}
-use Rattle.lists.specs.Rows.{listOf}
 use Rattle.extensions.specs.Flags.{hasAuthorityKeyId, hasAuthoritySerial, hasSubjectKeyId, hasPathLength}
-use Rattle.extensions.specs.Extensions.{keyIdsP, extensionsP}
+use Rattle.extensions.specs.Extensions.{present, keyIdsP, extensionsP}
 use Rattle.extensions.specs.declared.KeyIds.{KeyIds}
 use Rattle.extensions.specs.declared.Extensions.{Extensions}
 use Rattle.record.specs.Certificate.{Certificate}
@@ -45,10 +42,6 @@ issuerSpan r = record { start = r .issuer; end = r .subject }
 
 abbrev pub subjectSpan : Record → Span
 subjectSpan r = record { start = r .subject; end = r .rest }
-
--- a part, where its flag is set
-abbrev pub present : {A : Type 0} → Bool → A → Option A
-present b a = cond b (some a) none
 
 -- what a head and a record's places say over a file, whatever they are
 unfoldable pub certificateBy : Head → Record → List ℕ → Certificate

@@ -1,2 +1,3 @@
 pub mod Hosts
 pub mod Pinned
+pub mod Values

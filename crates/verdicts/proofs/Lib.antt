@@ -3,3 +3,4 @@ pub mod Pass
 pub mod Pinned
 pub mod Product
 pub mod Rows
+pub mod Values
