@@ -103,3 +103,9 @@ content-by-card s = by-length (leb (length s) fileMost) refl
         → cond b (whole sectionsP s) (stop 5) ≡ valued (λ c. contentOf c s) (cond b (whole cardP s) (stop 5))
     by-length true h = whole-valued s (leb-true (length s) fileMost h)
     by-length false h = refl
+
+pub content-got : (s : List ℕ) (c : Card) (e : ℕ) → fileP s ≡ got c e → contentP s ≡ got (contentOf c s) e
+content-got s c e h = content-by-card s ∙ ap (valued (λ c. contentOf c s)) h
+
+pub content-stops : (s : List ℕ) (r : ℕ) → fileP s ≡ stop r → contentP s ≡ stop r
+content-stops s r h = content-by-card s ∙ ap (valued (λ c. contentOf c s)) h

@@ -14,6 +14,7 @@ use Rattle.card.specs.Parts.{contentOf}
 use Rattle.card.specs.declared.Card.{Card}
 use Rattle.card.specs.declared.Outcome.the-variants.{Read, Stop}
 use Rattle.card.proofs.Sections.{card-read}
+use Rattle.card.proofs.Values.{content-got, content-stops}
 use Rattle.card.proofs.Stops.{file-stops}
 use Rattle.order.specs.Paths.{Simple}
 use Rattle.reply.specs.Settles.{QualifiesBy}
@@ -42,14 +43,14 @@ pub record Put-of (s : List ℕ) (w : When) (q : Question) : Type 0 where
 
 module _ (s : List ℕ) (w : When) (x : Posed) (is : told x ≡ posed s w (fileP s)) where
   put-of : (c : Card) (end : ℕ) → fileP s ≡ got c end → Put-of s w (questionOf s w c)
-  unfolding questionOf contentOf contentP
+  unfolding questionOf contentOf
   put-of c end k =
       let t = card-read s c end k in
       let time = timeFor w (c .task .now) in
       record {
         content = contentOf c s;
         end = end;
-        says = rw k;
+        says = content-got s c end k;
         asks =
             record {
               places = places-read s c end t time;
@@ -70,7 +71,6 @@ module _ (s : List ℕ) (w : When) (x : Posed) (is : told x ≡ posed s w (fileP
           absurd (omega (arith, n, ap numberOf o))
 
   pub stop-says : (f : Fault) → x .outcome ≡ Stop f → contentP s ≡ stop (number f)
-  unfolding contentP
   stop-says f o = by-file (fileP s) refl
     where
       by-file : (y : Parsed Card) → fileP s ≡ y → contentP s ≡ stop (number f)
@@ -79,4 +79,4 @@ module _ (s : List ℕ) (w : When) (x : Posed) (is : told x ≡ posed s w (fileP
           absurd (fault-some f (sym (ap numberOf o) ∙ n))
       by-file (stop r) k =
           let n : numberOf (x .outcome) ≡ r = ap (λ (p : ℕ × Question). p .0) (is ∙ ap (posed s w) k) in
-          rw (k, sym (ap numberOf o) ∙ n)
+          content-stops s r k ∙ ap stop (sym n ∙ ap numberOf o)

@@ -13,6 +13,7 @@ use Rattle.card.specs.Content.{contentP}
 use Rattle.card.specs.Parts.{contentOf}
 use Rattle.card.specs.declared.Card.{Card}
 use Rattle.card.proofs.Sections.{card-read}
+use Rattle.card.proofs.Values.{content-got, content-stops}
 use Rattle.card.proofs.Standing.{bundle-few}
 use Rattle.card.proofs.Stops.{file-stops}
 use Rattle.fields.specs.Fields.{Parsed, got, stop}
@@ -57,14 +58,13 @@ module _ (a : Answer) (ten : a .reply ≡ Error 10) where
   answered-other (suc e) n p x = n (other (x .stops (omega arith) .says))
 
   pub never-ten : (s before after : List ℕ) → length before ≡ roomMost → Search (contentP s) before after a → ⊥
-  unfolding contentP
   never-ten s before after long x = by-file (fileP s) refl
     where
       by-file : (y : Parsed Card) → fileP s ≡ y → ⊥
       by-file (got c e) k =
           let few : length (contentOf c s .bundle) ≤ bundleMost = bundle-few s c e (card-read s c e k) in
-          answered-other _ (rw long (enough (length (contentOf c s .bundle)) few)) searched-other (rw k at x)
-      by-file (stop r) k = let q = file-stops s .at r k in omega (arith, other ((rw k at x) .says))
+          answered-other _ (rw long (enough (length (contentOf c s .bundle)) few)) searched-other (rw (content-got s c e k) at x)
+      by-file (stop r) k = let q = file-stops s .at r k in omega (arith, other ((rw (content-stops s r k) at x) .says))
 
 -- no second line replies to a file
 pub one-line : (s : List ℕ) (l m : Line) → Replies (contentP s) l → Replies (contentP s) m → l ≡ m
