@@ -65,8 +65,11 @@ module _ (t : Bool) (pattern name : List ℕ) where
         pub short : length name ≤ length pattern - 1 → matchName (low t pattern) (low t name) ≡ false
         short h = tests ∙ rw (le-ltb _ _ h)
 
-        pub long : length pattern - 1 < length name
-            → matchName (low t pattern) (low t name)
-            ≡ same (low t (drop (length name - (length pattern - 1)) name)) (low t (drop 1 pattern))
-            && not (hasByte 46 (take (length name - (length pattern - 1)) name))
-        long h = tests ∙ rw (lt-ltb _ _ h)
+        module _ (long : length pattern - 1 < length name) where
+          pub elsewhere : same (low t (drop (length name - (length pattern - 1)) name)) (low t (drop 1 pattern)) ≡ false
+              → matchName (low t pattern) (low t name) ≡ false
+          elsewhere e = tests ∙ rw (lt-ltb _ _ long, e)
+
+          pub labelled : same (low t (drop (length name - (length pattern - 1)) name)) (low t (drop 1 pattern)) ≡ true
+              → matchName (low t pattern) (low t name) ≡ not (hasByte 46 (take (length name - (length pattern - 1)) name))
+          labelled e = tests ∙ rw (lt-ltb _ _ long, e)

@@ -12,7 +12,7 @@ use Rattle.text.specs.Bytes.{same, startsWith}
 use Rattle.text.specs.Wildcard.{starDot}
 use Rattle.text.proofs.Same.{tail}
 use Rattle.text.proofs.Lowering.{low}
-use Rattle.text.proofs.Star.{plain, bare, domain, short, long}
+use Rattle.text.proofs.Star.{plain, bare, domain, short, labelled, elsewhere}
 use Rattle.text.proofs.wildcard.match_lowering.Statement.{statement}
 use Rattle.text.proofs.wildcard.match_lowering.Tie as tie
 
@@ -119,14 +119,14 @@ returns-5 c =
     let e = c .before .before .before in
     let f = e .before .before .before in
     let s = begun (f .before) in
-    ap not (c .has-byte .ensures) ∙ sym (long (t s) (pattern s) (name s) (star (f .before .before .before .before .before)) (omega arith) (other (f .before)) (f .if4 .left) ∙ rw (sym (simp tail at (e .equal-lowering3 .ensures)) ∙ c .before .before .if5 .taken))
+    ap not (c .has-byte .ensures) ∙ sym (labelled (t s) (pattern s) (name s) (star (f .before .before .before .before .before)) (omega arith) (other (f .before)) (f .if4 .left) (sym (simp tail at (e .equal-lowering3 .ensures)) ∙ c .before .before .if5 .taken))
 
 returns-6 : tie.Need-returns-6
 returns-6 c =
     let e = c .before in
     let f = e .before .before .before in
     let s = begun (f .before) in
-    sym (long (t s) (pattern s) (name s) (star (f .before .before .before .before .before)) (omega arith) (other (f .before)) (f .if4 .left) ∙ rw (sym (simp tail at (e .equal-lowering3 .ensures)) ∙ c .if5 .left))
+    sym (elsewhere (t s) (pattern s) (name s) (star (f .before .before .before .before .before)) (omega arith) (other (f .before)) (f .if4 .left) (sym (simp tail at (e .equal-lowering3 .ensures)) ∙ c .if5 .left))
 
 pub match-lowering-spec : {M : Type 1} → statement M
 match-lowering-spec =
