@@ -2,7 +2,7 @@
 use mathlib.Core.Bool.{Bool, cond, not}
 use Prim.Native.Nat.{ℕ}
 use lib.Dec.{eqb}
-use Rattle.text.specs.Normal.{Reply}
+use Rattle.text.specs.Normalize.{Formed}
 use Rattle.desk.specs.declared.texts.Form.{Form}
 
 -- a flag: 0 is no, anything else yes
@@ -14,5 +14,5 @@ abbrev pub yesNo : Bool → ℕ
 yesNo b = cond b 1 0
 
 -- what the normaliser says
-abbrev pub formed : Reply → Form
+abbrev pub formed : Formed → Form
 formed r = record { length = r .bytes; number = r .number }

@@ -1,7 +1,7 @@
 // Texts for C: a string's normal form, and a host name under a pattern.
 use text::Normalized;
 ghost use mathlib.Core.Path.{_≡_};
-ghost use Rattle.text.specs.Normal.{said, normalized, written};
+ghost use Rattle.text.specs.Normalize.{formOf, normalized, written};
 ghost use Rattle.text.specs.Wildcard.{matchName};
 ghost use Rattle.desk.specs.Leaves.{yesNo, formed};
 
@@ -15,7 +15,7 @@ pub struct Form {
 impl Form {
     // The same answer in plain numbers.
     pub fn of(answer: Normalized) -> Form
-        ensures { λ r. ⌜ r ≡ formed (said answer) ⌝ }
+        ensures { λ r. ⌜ r ≡ formed (formOf answer) ⌝ }
     {
         match answer {
             Normalized::Length(bytes) => Form {

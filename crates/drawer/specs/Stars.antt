@@ -6,11 +6,11 @@ use Prim.Native.String.{String}
 use Prim.Native.String as string
 use mathlib.Core.Path.{_≡_, refl}
 use mathlib.Core.Bool.{Bool, true, false, _&&_, Bool·beq}
-use mathlib.Core.List.{List, [], _∷_}
+use mathlib.Core.List.{List, [], _∷_, flatMap}
 use lib.ListN.{replicate}
-use Rattle.text.specs.Bytes.{lowered, same, hasByte, startsWith, endsWith}
-use Rattle.text.specs.Normal.{normal, normalFrom}
-use Rattle.text.specs.Wildcard.{starDot, underStar, matchName}
+use Rattle.text.specs.Bytes.{lowered, same, startsWith}
+use Rattle.text.specs.Normal.{onto, pieces, wordsOf, normal}
+use Rattle.text.specs.Wildcard.{starDot, label, underDomain, underStar, matchName}
 use Rattle.keys.specs.Address.{masked, holds, ipAddrInRange}
 use Rattle.names.specs.Names.{Attr}
 use Rattle.same.specs.Same.{sameAttr, rdnHasName}
@@ -70,5 +70,5 @@ table =
 
 -- every case of the table has the answer that stands beside it, and "*." matches no name at all
 pub stars : (right table ≡ true) × ((name : List ℕ) → matchName starDot name ≡ false)
-unfolding lowered same hasByte startsWith endsWith normal normalFrom underStar matchName masked holds ipAddrInRange sameAttr rdnHasName isSubtreeRdn answer right net a b table
+unfolding lowered same startsWith onto pieces wordsOf flatMap normal label underDomain underStar matchName masked holds ipAddrInRange sameAttr rdnHasName isSubtreeRdn answer right net a b table
 stars = (refl, λ name. refl)

@@ -11,8 +11,10 @@ use lib.Seq.{drop-cons, take-suc-set, drop-set-lt, drop-drop, length-take-le}
 use lib.Dec.{ltb, eqb}
 use borrow.Author.Tests.{lt-ltb, le-ltb, eq-eqb, ne-eqb}
 use Rattle.text.specs.Bytes.{lowered}
-use Rattle.text.specs.Normal.{normalFrom, normal, said, normalized, written}
+use Rattle.text.specs.Normal.{normal}
+use Rattle.text.specs.Normalize.{formOf, normalized, written}
 use Rattle.text.specs.declared.normal.Normalized.the-variants.{Length, NoRoom}
+use Rattle.text.proofs.NormalFrom.{normalFrom, normal-from}
 
 -- what is written and what is left to write are the normal form; the room after that is as it was
 pub record State (s out₀ out : List ℕ) (i n : ℕ) (nw ws : Bool) : Type 0 where
@@ -24,10 +26,9 @@ pub record State (s out₀ out : List ℕ) (i n : ℕ) (nw ws : Bool) : Type 0 w
   pub fewer : n + cond ws 1 0 ≤ i
 
 pub start : (s out : List ℕ) → length s ≤ length out → State s out out 0 0 false false
-unfolding normal
-start s out h = record { left = refl; kept = refl; long = refl; room = h; past = omega arith; fewer = omega arith }
+start s out h = record { left = normal-from s; kept = refl; long = refl; room = h; past = omega arith; fewer = omega arith }
 
-pub refused : (s out : List ℕ) → length out < length s → (said NoRoom ≡ normalized s out) × (out ≡ written s out)
+pub refused : (s out : List ℕ) → length out < length s → (formOf NoRoom ≡ normalized s out) × (out ≡ written s out)
 unfolding normalized written
 refused s out h = (rw (lt-ltb _ _ h), rw (lt-ltb _ _ h))
 
@@ -117,7 +118,7 @@ module _ (s out₀ out : List ℕ) (i n : ℕ) (nw ws : Bool) (h : State s out�
   filled : out ≡ normal s ++ drop (length (normal s)) out₀
   filled = sym (take-append-drop n out) ∙ ap (λ l. l ++ drop n out) whole ∙ ap (λ l. normal s ++ l) (h .kept) ∙ ap (λ k. normal s ++ drop k out₀) (sym count)
 
-  pub done : (said (Length n) ≡ normalized s out₀) × (out ≡ written s out₀)
+  pub done : (formOf (Length n) ≡ normalized s out₀) × (out ≡ written s out₀)
   unfolding normalized written
   done =
       let f : ltb (length out₀) (length s) ≡ false = le-ltb _ _ (h .room) in

@@ -1,7 +1,9 @@
 pub mod Lowered
 pub mod Lowering
 pub mod Same
+pub mod NormalFrom
 pub mod Form
+pub mod Label
 pub mod Star
 pub mod Told
 pub mod Pinned

@@ -8,7 +8,8 @@ use native.Mathlib.Omega.{arith}
 use lib.Dec.{eqb, leb}
 use lib.ListN.{take, drop, length-map}
 use borrow.Author.Tests.{leb-true, ne-eqb}
-use Rattle.text.specs.Bytes.{lowered, loweredIf, same, hasByte, startsWith}
+use Rattle.text.specs.Bytes.{lowered, same, startsWith}
+use Rattle.text.specs.Private.{loweredIf, hasByte}
 use Rattle.text.specs.Wildcard.{starDot}
 use Rattle.text.proofs.Each.{both-true}
 
@@ -32,7 +33,7 @@ module _ (lowering : Bool) where
   low-drop (suc n) (x ∷ l) = low-drop n l
 
 -- a sign below the letters is no byte's but its own
-lowered-sign : (sign b : ℕ) → sign < 65 → eqb (lowered b) sign ≡ eqb b sign
+pub lowered-sign : (sign b : ℕ) → sign < 65 → eqb (lowered b) sign ≡ eqb b sign
 unfolding lowered
 lowered-sign sign b h = go (leb 65 b && leb b 90) refl where
   go : (t : Bool) → (leb 65 b && leb b 90) ≡ t → eqb (cond t (b + 32) b) sign ≡ eqb b sign

@@ -10,7 +10,8 @@ use lib.Dec.{eqb}
 use lib.ListN.{length, getD, take, drop, length-drop, length-map, drop-of-length-le}
 use lib.Seq.{drop-cons, take-all}
 use borrow.Author.Tests.{eqb-true, eq-eqb, ne-eqb, le-leb, lt-leb}
-use Rattle.text.specs.Bytes.{same, hasByte, startsWith, endsWith}
+use Rattle.text.specs.Bytes.{same, startsWith}
+use Rattle.text.specs.Private.{hasByte}
 use Rattle.text.proofs.Each.{both-true}
 
 -- ---- `same` is equality
@@ -79,7 +80,7 @@ module _ (c : ℕ) (l : List ℕ) (i : ℕ) where
   unfolding hasByte
   has-end p = rw (drop-of-length-le l p)
 
--- ---- `startsWith` and `endsWith`
+-- ---- `startsWith`
 
 module _ (s r : List ℕ) where
   pub starts-short : length s < length r → startsWith s r ≡ false
@@ -89,10 +90,6 @@ module _ (s r : List ℕ) where
   pub starts-long : length r ≤ length s → startsWith s r ≡ same (take (length r) s) r
   unfolding startsWith
   starts-long h = rw (le-leb _ _ h)
-
-  pub ends-long : length r ≤ length s → endsWith s r ≡ same (drop (length s - length r) s) r
-  unfolding endsWith
-  ends-long h = rw (le-leb _ _ h)
 
 -- `&l[k..]`
 pub tail : (k : ℕ) (l : List ℕ) → take (length l - k) (drop k l) ≡ drop k l

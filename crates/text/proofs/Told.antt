@@ -9,7 +9,8 @@ use lib.ListN.{length, take, drop, length-append}
 use lib.Seq.{take-append-seam}
 use lib.Dec.{ltb}
 use borrow.Author.Tests.{le-ltb}
-use Rattle.text.specs.Normal.{said, normal, normalized, written}
+use Rattle.text.specs.Normal.{normal}
+use Rattle.text.specs.Normalize.{formOf, normalized, written}
 use Rattle.text.specs.declared.normal.Normalized.{Normalized}
 use Rattle.text.specs.declared.normal.Normalized.the-variants.{Length, NoRoom}
 
@@ -18,7 +19,7 @@ module _ (s out₀ out : List ℕ) (n : ℕ) where
     pub whole : take n out ≡ normal s
     pub within : n ≤ length out
 
-  told-by : (t : Bool) → said (Length n) ≡ cond t (record { number = 10; bytes = 0 }) (record { number = 0; bytes = length (normal s) })
+  told-by : (t : Bool) → formOf (Length n) ≡ cond t (record { number = 10; bytes = 0 }) (record { number = 0; bytes = length (normal s) })
       → out ≡ cond t out₀ (normal s ++ drop (length (normal s)) out₀)
       → Told
   told-by true e o = let z : _≡_ {A = ℕ} 0 10 = ap (λ r. r .number) e in absurd (omega arith)
@@ -29,13 +30,13 @@ module _ (s out₀ out : List ℕ) (n : ℕ) where
         within = omega (arith, simp length-append at (ap length o));
       }
 
-  pub told : (r : Normalized) → said r ≡ normalized s out₀ → out ≡ written s out₀ → r ≡ Length n → Told
+  pub told : (r : Normalized) → formOf r ≡ normalized s out₀ → out ≡ written s out₀ → r ≡ Length n → Told
   unfolding normalized written
-  told r p o e = told-by (ltb (length out₀) (length s)) (ap said (sym e) ∙ p) o
+  told r p o e = told-by (ltb (length out₀) (length s)) (ap formOf (sym e) ∙ p) o
 
-pub roomy : (s out₀ : List ℕ) (r : Normalized) → said r ≡ normalized s out₀ → length s ≤ length out₀ → r ≡ NoRoom → ⊥
+pub roomy : (s out₀ : List ℕ) (r : Normalized) → formOf r ≡ normalized s out₀ → length s ≤ length out₀ → r ≡ NoRoom → ⊥
 unfolding normalized
 roomy s out₀ r p h e =
-    let q : said NoRoom ≡ record { number = 0; bytes = length (normal s) } = ap said (sym e) ∙ p ∙ rw (le-ltb (length out₀) (length s) h) in
+    let q : formOf NoRoom ≡ record { number = 0; bytes = length (normal s) } = ap formOf (sym e) ∙ p ∙ rw (le-ltb (length out₀) (length s) h) in
     let z : _≡_ {A = ℕ} 10 0 = ap (λ r. r .number) q in
     omega arith

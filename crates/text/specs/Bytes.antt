@@ -1,17 +1,13 @@
 -- A byte lowered, and byte strings compared. Assumes nothing.
-use Prim.Native.Nat.{ℕ, _+_, _-_}
-use mathlib.Core.Bool.{Bool, true, false, cond, _&&_, _||_}
+use Prim.Native.Nat.{ℕ, _+_}
+use mathlib.Core.Bool.{Bool, true, false, cond, _&&_}
 use mathlib.Core.List.{List, [], _∷_}
-use lib.ListN.{length, take, drop}
+use lib.ListN.{length, take}
 use lib.Dec.{leb, eqb}
 
 -- A to Z gain 32, all other bytes stay
 unfoldable pub lowered : ℕ → ℕ
 lowered b = cond (leb 65 b && leb b 90) (b + 32) b
-
--- a byte as it is compared: lowered where that is asked
-abbrev pub loweredIf : Bool → ℕ → ℕ
-loweredIf lowering b = cond lowering (lowered b) b
 
 -- the same bytes
 unfoldable pub same : List ℕ → List ℕ → Bool
@@ -20,13 +16,6 @@ same [] (y ∷ b) = false
 same (x ∷ a) [] = false
 same (x ∷ a) (y ∷ b) = eqb x y && same a b
 
--- the byte c stands among these
-unfoldable pub hasByte : ℕ → List ℕ → Bool
-hasByte c [] = false
-hasByte c (x ∷ l) = eqb x c || hasByte c l
-
+-- s begins with r
 unfoldable pub startsWith : List ℕ → List ℕ → Bool
 startsWith s r = leb (length r) (length s) && same (take (length r) s) r
-
-unfoldable pub endsWith : List ℕ → List ℕ → Bool
-endsWith s r = leb (length r) (length s) && same (drop (length s - length r) s) r

@@ -1,39 +1,28 @@
--- The normal form of a string, and what `normalize_string` answers and leaves in the lent room. Assumes nothing.
+-- The normal form of a string, in which names are compared (RFC 5280, 7.1): its words, lowered and joined by one space.
+-- Assumes nothing.
 use Prim.Native.Nat.{ℕ}
-use mathlib.Core.Bool.{Bool, true, false, cond, _&&_}
-use mathlib.Core.List.{List, [], _∷_, _++_}
-use lib.ListN.{length, drop}
-use lib.Dec.{ltb, eqb}
+use mathlib.Core.Bool.{cond}
+use mathlib.Core.List.{List, [], _∷_, map, flatMap}
+use lib.ListN.{drop}
+use lib.Dec.{eqb}
 use Rattle.text.specs.Bytes.{lowered}
-use Rattle.text.specs.declared.normal.Normalized.{Normalized}
-use Rattle.text.specs.declared.normal.Normalized.the-variants.{Length, NoRoom}
 
--- what is left to write, by whether a byte other than a space was seen, and a space since the last of those
-unfoldable pub normalFrom : Bool → Bool → List ℕ → List ℕ
-normalFrom nw ws [] = []
-normalFrom nw ws (b ∷ l) =
-    cond (eqb b 32)
-    (normalFrom nw true l)
-    (cond (nw && ws) (32 ∷ []) [] ++ lowered b ∷ normalFrom true false l)
+-- a byte in front of the first piece
+unfoldable pub onto : ℕ → List (List ℕ) → List (List ℕ)
+onto b [] = (b ∷ []) ∷ []
+onto b (p ∷ ps) = (b ∷ p) ∷ ps
 
--- A to Z lowered; leading and trailing spaces go, inner runs become one
+-- the pieces between spaces, some of them empty
+unfoldable pub pieces : List ℕ → List (List ℕ)
+pieces [] = [] ∷ []
+pieces (b ∷ l) = cond (eqb b 32) ([] ∷ pieces l) (onto b (pieces l))
+
+-- the words: the pieces that are not empty
+unfoldable pub wordsOf : List (List ℕ) → List (List ℕ)
+wordsOf [] = []
+wordsOf ([] ∷ ps) = wordsOf ps
+wordsOf ((b ∷ w) ∷ ps) = (b ∷ w) ∷ wordsOf ps
+
+-- the words, lowered and joined by one space: each gets a space in front, and the first of these spaces goes
 unfoldable pub normal : List ℕ → List ℕ
-normal s = normalFrom false false s
-
--- the reply's number, and how many bytes were written
-pub record Reply : Type 0 where
-  pub number : ℕ
-  pub bytes : ℕ
-
--- what each case of the answer says
-abbrev pub said : Normalized → Reply
-said (Length n) = record { number = 0; bytes = n }
-said NoRoom = record { number = 10; bytes = 0 }
-
--- no room exactly where the room is shorter than the string
-unfoldable pub normalized : List ℕ → List ℕ → Reply
-normalized s out = cond (ltb (length out) (length s)) (record { number = 10; bytes = 0 }) (record { number = 0; bytes = length (normal s) })
-
--- the room as it is left: the normal form, and after it the bytes that were there
-unfoldable pub written : List ℕ → List ℕ → List ℕ
-written s out = cond (ltb (length out) (length s)) out (normal s ++ drop (length (normal s)) out)
+normal s = drop 1 (flatMap (λ w. 32 ∷ w) (wordsOf (pieces (map lowered s))))

@@ -1,25 +1,31 @@
--- When a host name fits a pattern (upstream's `match_name`, word for word). Assumes nothing.
-use Prim.Native.Nat.{ℕ, _-_}
-use mathlib.Core.Bool.{Bool, cond, not, _&&_, _||_}
+-- When a host name fits a pattern (upstream's `match_name`, by the law `star-upstream`). Assumes nothing.
+use Prim.Native.Nat.{ℕ}
+use mathlib.Core.Bool.{Bool, cond, _&&_, _||_}
 use mathlib.Core.List.{List, [], _∷_}
-use lib.ListN.{length, take, drop}
-use lib.Dec.{ltb}
-use Rattle.text.specs.Bytes.{same, hasByte, startsWith, endsWith}
+use lib.ListN.{length, drop}
+use lib.Dec.{ltb, eqb}
+use Rattle.text.specs.Bytes.{same, startsWith}
 
 -- "*."
 abbrev pub starDot : List ℕ
 starDot = 42 ∷ 46 ∷ []
 
--- name is longer than the pattern's ".suffix", ends with it, and what stands before that has no dot
-unfoldable pub underStar : List ℕ → List ℕ → Bool
-underStar pattern name =
-    ltb (length pattern - 1) (length name)
-    && endsWith name (drop 1 pattern)
-    && not (hasByte 46 (take (length name - (length pattern - 1)) name))
+-- the bytes before the first dot
+unfoldable pub label : List ℕ → List ℕ
+label [] = []
+label (b ∷ l) = cond (eqb b 46) [] (b ∷ label l)
 
--- a pattern that begins with "*." and goes on matches what follows the star's dot, and that under one label more
+-- a label of at least one byte, then a dot, then the domain
+unfoldable pub underDomain : List ℕ → List ℕ → Bool
+underDomain domain name = ltb 0 (length (label name)) && same (drop (length (label name)) name) (46 ∷ domain)
+
+-- under the star: the bare domain, or one label more
+unfoldable pub underStar : List ℕ → List ℕ → Bool
+underStar domain name = same domain name || underDomain domain name
+
+-- a pattern that begins with "*." and goes on stands for what is under the star; any other for itself
 unfoldable pub matchName : List ℕ → List ℕ → Bool
 matchName pattern name =
     cond (startsWith pattern starDot)
-    (ltb 2 (length pattern) && (same (drop 2 pattern) name || underStar pattern name))
+    (ltb 2 (length pattern) && underStar (drop 2 pattern) name)
     (same pattern name)

@@ -1,7 +1,8 @@
 // Single bytes, and byte strings compared.
 ghost use mathlib.Core.List.{map};
 ghost use mathlib.Core.Path.{_≡_};
-ghost use Rattle.text.specs.Bytes.{lowered, loweredIf, same, hasByte, startsWith};
+ghost use Rattle.text.specs.Bytes.{lowered, same, startsWith};
+ghost use Rattle.text.specs.Private.{loweredIf, hasByte};
 
 // A to Z gain 32.
 pub fn lower(b: u8) -> u8

@@ -1,7 +1,7 @@
 // The normal form of a string, in which names are compared (RFC 5280, 7.1).
 use crate::lower;
 ghost use mathlib.Core.Path.{_≡_};
-ghost use Rattle.text.specs.Normal.{said, normalized, written};
+ghost use Rattle.text.specs.Normalize.{formOf, normalized, written};
 
 // The normal form's length, or that the lent room is shorter than the string.
 pub enum Normalized {
@@ -12,7 +12,7 @@ pub enum Normalized {
 // Writes the normal form of s to the start of out: A to Z lowered, spaces at both ends gone, a run of spaces
 // inside become one. Without room for s itself nothing is written.
 pub fn normalize_string(s: &[u8], out: &mut [u8]) -> Normalized
-    ensures answer { λ r. ⌜ said r ≡ normalized (now (s .entry)) (now (out .entry)) ⌝ }
+    ensures answer { λ r. ⌜ formOf r ≡ normalized (now (s .entry)) (now (out .entry)) ⌝ }
     ensures room { λ r. ⌜ now (out .exit) ≡ written (now (s .entry)) (now (out .entry)) ⌝ }
 {
     if out.len() < s.len() {

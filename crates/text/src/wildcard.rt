@@ -4,7 +4,8 @@ use crate::bytes::has_byte;
 use crate::bytes::starts_with;
 ghost use mathlib.Core.List.{map};
 ghost use mathlib.Core.Path.{_≡_};
-ghost use Rattle.text.specs.Bytes.{lowered, loweredIf};
+ghost use Rattle.text.specs.Bytes.{lowered};
+ghost use Rattle.text.specs.Private.{loweredIf};
 ghost use Rattle.text.specs.Wildcard.{matchName};
 
 // Whether a name fits a pattern, byte for byte. "*." before a domain stands for the domain itself or one label before it.

@@ -4,7 +4,7 @@ use Prim.Native.Nat.{_-_}
 use lib.ListN.{length}
 use denote.Ref.{now}
 use borrow.Author.Needs.{needs}
-use Rattle.text.specs.Bytes.{loweredIf}
+use Rattle.text.specs.Private.{loweredIf}
 use Rattle.text.proofs.Same.{AlikeTo, lengths-differ, alike-starts, alike-next, alike-ends}
 use Rattle.text.proofs.bytes.equal_lowering.Statement.{statement}
 use Rattle.text.proofs.bytes.equal_lowering.Tie as tie

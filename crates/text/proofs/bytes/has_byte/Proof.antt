@@ -4,7 +4,7 @@ use Prim.Native.Nat.{_-_}
 use mathlib.Core.Path.{_≡_, refl, sym, _∙_}
 use lib.ListN.{length, drop}
 use borrow.Author.Needs.{needs}
-use Rattle.text.specs.Bytes.{hasByte}
+use Rattle.text.specs.Private.{hasByte}
 use Rattle.text.proofs.Same.{has-here, has-next, has-end}
 use Rattle.text.proofs.bytes.has_byte.Statement.{statement}
 use Rattle.text.proofs.bytes.has_byte.Tie as tie

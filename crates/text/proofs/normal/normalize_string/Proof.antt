@@ -31,7 +31,7 @@ loop-less : tie.Need-loop-less Inv-loop μ-loop
 loop-less c = search needs
 
 loop-again : tie.Need-loop-again Inv-loop μ-loop
-loop-again c = space _ _ _ _ _ _ _ (c .before .before .before .loop .inv) (c .before .before .loop-test .taken) (c .if2 .taken)
+loop-again c = space _ _ _ _ _ _ _ (c .before .before .before .loop .inv) (omega arith) (c .if2 .taken)
 
 slice-write-out : tie.Need-slice-write-out Inv-loop μ-loop
 slice-write-out c = search needs
@@ -43,7 +43,7 @@ add-out : tie.Need-add-out Inv-loop μ-loop
 add-out c = search needs
 
 slice-write-out-2 : tie.Need-slice-write-out-2 Inv-loop μ-loop
-slice-write-out-2 c = gap-room _ _ _ _ _ _ _ (c .before .before .before .before .before .before .loop .inv) (c .before .before .before .before .before .loop-test .taken) (c .before .if4 .taken)
+slice-write-out-2 c = gap-room _ _ _ _ _ _ _ (c .before .before .before .before .before .before .loop .inv) (omega arith) (c .before .if4 .taken)
 
 add-n : tie.Need-add-n Inv-loop μ-loop
 add-n c = search needs
@@ -56,8 +56,7 @@ loop-less-2 c = search needs
 
 loop-again-2 : tie.Need-loop-again-2 Inv-loop μ-loop
 loop-again-2 c =
-    let l = c .before .before .before .before .before in
-    two _ _ _ _ _ _ _ (l .before .loop .inv) (l .loop-test .taken) _ (c .before .before .if3 .taken) (c .before .if4 .taken) (c .before .before .before .if2 .left) (c .lower .ensures)
+    two _ _ _ _ _ _ _ (c .before .before .before .before .before .before .loop .inv) (omega arith) _ (c .before .before .if3 .taken) (c .before .if4 .taken) (c .before .before .before .if2 .left) (c .lower .ensures)
 
 lower-requires-2 : tie.Need-lower-requires-2 Inv-loop μ-loop
 lower-requires-2 c κs = search needs
@@ -76,8 +75,7 @@ loop-less-3 c = search needs
 
 loop-again-3 : tie.Need-loop-again-3 Inv-loop μ-loop
 loop-again-3 c =
-    let l = c .before .before .before .before in
-    one _ _ _ _ _ _ _ (l .before .loop .inv) (l .loop-test .taken) _ (c .before .before .if2 .left) (⊎-elim (λ w. rw (w .0 .taken, w .1 .left)) (λ w. rw (w .left)) (c .before .if3 .came)) (c .lower2 .ensures)
+    one _ _ _ _ _ _ _ (c .before .before .before .before .before .loop .inv) (omega arith) _ (c .before .before .if2 .left) (⊎-elim (λ w. rw (w .0 .taken, w .1 .left)) (λ w. rw (w .left)) (c .before .if3 .came)) (c .lower2 .ensures)
 
 same-length : tie.Need-same-length Inv-loop μ-loop
 same-length c = search needs

@@ -1,18 +1,18 @@
 -- `match_lowering` meets its contract: a law of `Star` for each return, and what the calls ensure. Assumes nothing.
 use mathlib.Core.Path.{_≡_, sym, ap, _∙_}
-use mathlib.Core.Bool.{Bool, true, not}
+use mathlib.Core.Bool.{Bool, true, false, not}
 use mathlib.Core.List.{List}
 use Prim.Native.Nat.{ℕ}
 use native.Mathlib.Omega.{arith}
-use lib.ListN.{length-take}
+use lib.ListN.{drop, length-take}
 use denote.Ref.{now}
 use borrow.Author.Tests.{not-true, not-false}
 use borrow.Author.Needs.{needs}
-use Rattle.text.specs.Bytes.{startsWith}
-use Rattle.text.specs.Wildcard.{starDot, underStar, matchName}
+use Rattle.text.specs.Bytes.{same, startsWith}
+use Rattle.text.specs.Wildcard.{starDot}
 use Rattle.text.proofs.Same.{tail}
 use Rattle.text.proofs.Lowering.{low}
-use Rattle.text.proofs.Star.{plain, bare, domain, under, short, label}
+use Rattle.text.proofs.Star.{plain, bare, domain, short, labelled, elsewhere}
 use Rattle.text.proofs.wildcard.match_lowering.Statement.{statement}
 use Rattle.text.proofs.wildcard.match_lowering.Tie as tie
 
@@ -36,13 +36,9 @@ name s = now (s .args .name)
 star : (c : tie.Else1) → startsWith (pattern (entry (c .before))) starDot ≡ true
 star c = sym (c .before .starts-with .ensures) ∙ not-false _ (c .if1 .left)
 
--- where name is not the pattern's own domain, a label has to stand before that
-under-star : (c : tie.Else3)
-    → matchName (low (t (begun c)) (pattern (begun c))) (low (t (begun c)) (name (begun c)))
-    ≡ underStar (low (t (begun c)) (pattern (begun c))) (low (t (begun c)) (name (begun c)))
-under-star c =
-    let s = begun c in
-    under (t s) (pattern s) (name s) (star (c .before .before .before .before)) (omega arith) (sym (rw tail at (c .before .equal-lowering2 .ensures)) ∙ c .if3 .left)
+-- the name is not the pattern's own domain
+other : (c : tie.Else3) → same (low (t (begun c)) (drop 2 (pattern (begun c)))) (low (t (begun c)) (name (begun c))) ≡ false
+other c = sym (rw tail at (c .before .equal-lowering2 .ensures)) ∙ c .if3 .left
 
 slice-aggregate-starts-with : tie.Need-slice-aggregate-starts-with
 slice-aggregate-starts-with c = search needs
@@ -86,7 +82,7 @@ sub-suffix c = search needs
 returns-4 : tie.Need-returns-4
 returns-4 c =
     let s = begun (c .before) in
-    sym (under-star (c .before) ∙ short (t s) (pattern s) (name s) (c .if4 .taken))
+    sym (short (t s) (pattern s) (name s) (star (c .before .before .before .before .before)) (omega arith) (other (c .before)) (c .if4 .taken))
 
 sub-label : tie.Need-sub-label
 sub-label c = search needs
@@ -123,14 +119,14 @@ returns-5 c =
     let e = c .before .before .before in
     let f = e .before .before .before in
     let s = begun (f .before) in
-    ap not (c .has-byte .ensures) ∙ sym (under-star (f .before) ∙ label (t s) (pattern s) (name s) (f .if4 .left) ∙ rw (sym (simp tail at (e .equal-lowering3 .ensures)) ∙ c .before .before .if5 .taken))
+    ap not (c .has-byte .ensures) ∙ sym (labelled (t s) (pattern s) (name s) (star (f .before .before .before .before .before)) (omega arith) (other (f .before)) (f .if4 .left) (sym (simp tail at (e .equal-lowering3 .ensures)) ∙ c .before .before .if5 .taken))
 
 returns-6 : tie.Need-returns-6
 returns-6 c =
     let e = c .before in
     let f = e .before .before .before in
     let s = begun (f .before) in
-    sym (under-star (f .before) ∙ label (t s) (pattern s) (name s) (f .if4 .left) ∙ rw (sym (simp tail at (e .equal-lowering3 .ensures)) ∙ c .if5 .left))
+    sym (elsewhere (t s) (pattern s) (name s) (star (f .before .before .before .before .before)) (omega arith) (other (f .before)) (f .if4 .left) (sym (simp tail at (e .equal-lowering3 .ensures)) ∙ c .if5 .left))
 
 pub match-lowering-spec : {M : Type 1} → statement M
 match-lowering-spec =
