@@ -12,7 +12,7 @@ use Rattle.fields.specs.Fields.{Parsed, got, stop, after, countP, bytesP, strin
 use Rattle.fields.specs.Spans.{spanP}
 use Rattle.names.specs.Names.{oidMost, valueMost, rdnMost, nameMost, attrP, rdnP, nameP}
 use Rattle.lists.specs.Lists.{usageMost, usagesMost, dnsNameMost, dnsNamesMost, usageP, dnsNameP}
-use Rattle.lists.specs.Rows.{usagesP, dnsNamesP, rowP}
+use Rattle.lists.specs.Runs.{usagesP, dnsNamesP, runP}
 use Rattle.extensions.specs.Extensions.{spanIfP, keyIdsP, pathLengthP, extensionsP}
 use Rattle.extensions.specs.Flags.{keyIdMost, serialMost, flag}
 use Rattle.record.specs.Record.{openingP, datesP, headP, stringsP, namesP, recordP}
@@ -162,8 +162,8 @@ module _ (s : List ℕ) where
   unfolding dnsNameP
   dns-name at = string 1 dnsNameMost at
 
-  listed : {A : Type 0} (most : ℕ) (p : List ℕ → ℕ → Parsed A) → ((at : ℕ) → Stops (p s at)) → (at : ℕ) → Stops (rowP most p s at)
-  unfolding rowP
+  listed : {A : Type 0} (most : ℕ) (p : List ℕ → ℕ → Parsed A) → ((at : ℕ) → Stops (p s at)) → (at : ℕ) → Stops (runP most p s at)
+  unfolding runP
   listed most p each at = then (countP 0 most s at) (count 0 most at) (λ n e. then (many p n s e) (row p each n e) (λ _ f. goes _ _))
 
   extensions : (f at : ℕ) → Stops (extensionsP f s at)

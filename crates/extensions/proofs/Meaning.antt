@@ -11,8 +11,8 @@ use Rattle.fields.proofs.After.{after-got, got-is}
 use Rattle.fields.proofs.Counts.{byte-few}
 use Rattle.fields.proofs.Strings.{SpanRead, span-read}
 use Rattle.lists.specs.Lists.{usageP, dnsNameP, usageMost, usagesMost, dnsNameMost, dnsNamesMost}
-use Rattle.lists.specs.Rows.{usagesP, dnsNamesP}
-use Rattle.lists.proofs.Meaning.{RowRead, row-read, row-each, usage-few, dns-name-bounded}
+use Rattle.lists.specs.Runs.{usagesP, dnsNamesP}
+use Rattle.lists.proofs.Meaning.{RunRead, run-read, run-each, usage-few, dns-name-bounded}
 use Rattle.extensions.specs.Extensions.{spanIfP, keyIdsP, pathLengthP, extensionsP}
 use Rattle.extensions.specs.Flags.{flag, keyIdMost, serialMost}
 use Rattle.extensions.specs.declared.KeyIds.{KeyIds}
@@ -63,8 +63,8 @@ pub record ExtensionsRead (flags : ℕ) (s : List ℕ) (at : ℕ) (x : Extension
   pub dns-at : ℕ
   pub key-ids : KeyIdsRead flags s at (x .«key_ids») path-at
   pub path-length : x .«path_length» ≤ 255
-  pub usages : RowRead usagesMost usageP s (x .usages) dns-at
-  pub dns-names : RowRead dnsNamesMost dnsNameP s (x .«dns_names») e
+  pub usages : RunRead usagesMost usageP s (x .usages) dns-at
+  pub dns-names : RunRead dnsNamesMost dnsNameP s (x .«dns_names») e
   pub each-usage : (i : ℕ) → i < x .usages .count → getD (usages .things) i 0 ≤ usageMost
   pub each-dns-name : (i : ℕ) → i < x .«dns_names» .count
       → (1 ≤ length (getD (dns-names .things) i [])) × (length (getD (dns-names .things) i []) ≤ dnsNameMost)
@@ -76,8 +76,8 @@ extensions-read flags s at x e h =
     let path = after-got (pathLengthP flags s (keys .place)) _ (keys .next) in
     let usages = after-got (usagesP s (path .place)) _ (path .next) in
     let names = after-got (dnsNamesP s (usages .place)) _ (usages .next) in
-    let u = row-read usagesMost usageP s _ _ _ (usages .first) in
-    let n = row-read dnsNamesMost dnsNameP s _ _ _ (names .first) in
+    let u = run-read usagesMost usageP s _ _ _ (usages .first) in
+    let n = run-read dnsNamesMost dnsNameP s _ _ _ (names .first) in
     got-is (ExtensionsRead flags s at) (names .next)
     (record {
       path-at = keys .place;
@@ -86,6 +86,6 @@ extensions-read flags s at x e h =
       path-length = path-length-few flags s _ _ _ (path .first);
       usages = u;
       dns-names = n;
-      each-usage = row-each usagesMost usageP s (λ v. v ≤ usageMost) (usage-few s) _ _ u 0;
-      each-dns-name = row-each dnsNamesMost dnsNameP s (λ v. (1 ≤ length v) × (length v ≤ dnsNameMost)) (dns-name-bounded s) _ _ n [];
+      each-usage = run-each usagesMost usageP s (λ v. v ≤ usageMost) (usage-few s) _ _ u 0;
+      each-dns-name = run-each dnsNamesMost dnsNameP s (λ v. (1 ≤ length v) × (length v ≤ dnsNameMost)) (dns-name-bounded s) _ _ n [];
     })

@@ -10,9 +10,9 @@ use Rattle.fields.specs.Spans.{spanP, bytesOf, listOf}
 use Rattle.fields.proofs.Strings.{string-by-span}
 use Rattle.fields.proofs.Values.{valued, after-same, after-after, by-place}
 use Rattle.lists.specs.Lists.{usageP, dnsNameP, usagesMost, dnsNamesMost}
-use Rattle.lists.specs.Rows.{usagesP, dnsNamesP}
-use Rattle.lists.specs.declared.Row.{Row}
-use Rattle.lists.proofs.Values.{row-valued}
+use Rattle.lists.specs.Runs.{usagesP, dnsNamesP}
+use Rattle.lists.specs.declared.Run.{Run}
+use Rattle.lists.proofs.Values.{run-valued}
 use Rattle.extensions.specs.Flags.{hasAuthorityKeyId, hasAuthoritySerial, hasSubjectKeyId, hasPathLength, keyIdMost, serialMost}
 use Rattle.extensions.specs.Extensions.{present, spanIfP, keyIdsP, pathLengthP, extensionsP}
 
@@ -85,9 +85,9 @@ module _ {B : Type 0} (flags : ℕ) (s : List ℕ) where
       ∙ after-same (keyIdsP flags s at) (λ x g.
       by-place (pathLengthP flags s g) _ _ (path-length-valued flags s g)
       ∙ after-same (pathLengthP flags s g) (λ p h.
-      by-place (usagesP s h) _ _ (row-valued usagesMost usageP s h)
+      by-place (usagesP s h) _ _ (run-valued usagesMost usageP s h)
       ∙ after-same (usagesP s h) (λ u i.
-      by-place (dnsNamesP s i) _ _ (row-valued dnsNamesMost dnsNameP s i))))
+      by-place (dnsNamesP s i) _ _ (run-valued dnsNamesMost dnsNameP s i))))
       ∙ sym (after-after (keyIdsP flags s at) _ _
       ∙ after-same (keyIdsP flags s at) (λ x g.
       after-after (pathLengthP flags s g) _ _

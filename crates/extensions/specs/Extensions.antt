@@ -7,7 +7,7 @@ use mathlib.Core.Option.{Option, none, some}
 use Rattle.fields.specs.Fields.{Parsed, got, after, byteP}
 use Rattle.fields.specs.Spans.{spanP, nowhere}
 use Rattle.fields.specs.declared.string.Span.{Span}
-use Rattle.lists.specs.Rows.{usagesP, dnsNamesP}
+use Rattle.lists.specs.Runs.{usagesP, dnsNamesP}
 use Rattle.extensions.specs.Flags.{hasAuthorityKeyId, hasAuthoritySerial, hasSubjectKeyId, hasPathLength, keyIdMost, serialMost}
 use Rattle.extensions.specs.declared.KeyIds.{KeyIds}
 use Rattle.extensions.specs.declared.Extensions.{Extensions}

@@ -1,13 +1,17 @@
 // What a certificate's record has behind its names: key ids and a path length by its flags, and its lists. What was read is numbers and
 // places in the file. Which flags a record has, and what stands before, is left to the crate above.
+mod flags;
+
 use fields::CountAt;
 use fields::Fault;
 use fields::Span;
 use fields::StringAt;
 use fields::byte_at;
 use fields::string_at;
-use lists::Row;
-use lists::RowAt;
+pub use flags::Flags;
+pub use flags::has_flag;
+use lists::Run;
+use lists::RunAt;
 use lists::dns_names_at;
 use lists::usages_at;
 ghost use mathlib.Core.Path.{_≡_};
@@ -33,8 +37,8 @@ impl KeyIds {
 pub struct Extensions {
     pub key_ids: KeyIds,
     pub path_length: usize,
-    pub usages: Row,
-    pub dns_names: Row,
+    pub usages: Run,
+    pub dns_names: Run,
 }
 
 pub enum ExtensionsAt {
@@ -62,8 +66,8 @@ pub fn extensions_at(file: &[u8], at: usize, flags: usize) -> ExtensionsAt
                 count: path_length,
                 next: b,
             } => match usages_at(file, b) {
-                RowAt::Got { row: uses, next: c } => match dns_names_at(file, c) {
-                    RowAt::Got { row: names, next } => {
+                RunAt::Got { run: uses, next: c } => match dns_names_at(file, c) {
+                    RunAt::Got { run: names, next } => {
                         return ExtensionsAt::Got {
                             extensions: Extensions {
                                 key_ids,
@@ -74,11 +78,11 @@ pub fn extensions_at(file: &[u8], at: usize, flags: usize) -> ExtensionsAt
                             next,
                         };
                     }
-                    RowAt::Stop(fault) => {
+                    RunAt::Stop(fault) => {
                         return ExtensionsAt::Stop(fault);
                     }
                 },
-                RowAt::Stop(fault) => {
+                RunAt::Stop(fault) => {
                     return ExtensionsAt::Stop(fault);
                 }
             },
@@ -92,19 +96,34 @@ pub fn extensions_at(file: &[u8], at: usize, flags: usize) -> ExtensionsAt
     }
 }
 
-// Authority key id by flag 1, authority serial by flag 2, subject key id by flag 4.
+// Authority key id, authority serial, subject key id, each by its flag.
 pub fn key_ids_at(file: &[u8], at: usize, flags: usize) -> KeyIdsAt
     ensures { λ r. ⌜ identified r ≡ keyIdsP flags (now (file .entry)) at ⌝ }
 {
-    match option_at(file, at, flags % 2 == 1, KeyIds::KEY_ID_MOST) {
+    match option_at(
+        file,
+        at,
+        has_flag(flags, Flags::AUTHORITY_KEY_ID),
+        KeyIds::KEY_ID_MOST,
+    ) {
         OptionAt::Got {
             span: authority,
             next: a,
-        } => match option_at(file, a, flags / 2 % 2 == 1, KeyIds::SERIAL_MOST) {
+        } => match option_at(
+            file,
+            a,
+            has_flag(flags, Flags::AUTHORITY_SERIAL),
+            KeyIds::SERIAL_MOST,
+        ) {
             OptionAt::Got {
                 span: authority_serial,
                 next: b,
-            } => match option_at(file, b, flags / 4 % 2 == 1, KeyIds::KEY_ID_MOST) {
+            } => match option_at(
+                file,
+                b,
+                has_flag(flags, Flags::SUBJECT_KEY_ID),
+                KeyIds::KEY_ID_MOST,
+            ) {
                 OptionAt::Got {
                     span: subject,
                     next,
@@ -132,11 +151,11 @@ pub fn key_ids_at(file: &[u8], at: usize, flags: usize) -> KeyIdsAt
     }
 }
 
-// The path length by flag 16; 0 where there is none.
+// The path length by its flag; 0 where there is none.
 fn path_length_at(file: &[u8], at: usize, flags: usize) -> CountAt
     ensures { λ r. ⌜ counted r ≡ pathLengthP flags (now (file .entry)) at ⌝ }
 {
-    if flags / 16 % 2 == 1 {
+    if has_flag(flags, Flags::PATH_LENGTH) {
         return byte_at(file, at);
     }
     CountAt::Got { count: 0, next: at }

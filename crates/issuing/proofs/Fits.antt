@@ -1,16 +1,14 @@
--- What the code's tests of names and key identifiers come to, for an issuer and a subject whose claim is at hand: flags as remainders and
--- parts as bytes give `keys-fit`; with that asked first, the names give `likely-names` and `likely-none`. Assumes nothing.
-use Prim.Native.Nat.{ℕ, _/_, _%_}
+-- What the code's tests of names and key identifiers come to, for an issuer and a subject whose claim is at hand: flags and parts as
+-- bytes give `keys-fit`; with that asked first, the names give `likely-names` and `likely-none`. Assumes nothing.
+use Prim.Native.Nat.{ℕ}
 use mathlib.Core.Path.{_≡_, refl, sym, _∙_}
 use mathlib.Core.Bool.{Bool, true, false, _&&_}
 use mathlib.Core.List.{List}
-use native.Mathlib.Nat.{div-one}
-use lib.Dec.{eqb}
 use Rattle.fields.specs.Spans.{bytesOf}
 use Rattle.fields.specs.declared.string.Span.{Span}
 use Rattle.same.specs.Answers.{sameNames}
 use Rattle.keys.specs.AuthKeyId.{given, checkAuthKeyId}
-use Rattle.extensions.specs.Flags.{flag}
+use Rattle.extensions.specs.Flags.{hasAuthorityKeyId, hasAuthoritySerial, hasSubjectKeyId}
 use Rattle.extensions.specs.Extensions.{present}
 use Rattle.extensions.specs.declared.KeyIds.{KeyIds}
 use Rattle.record.specs.declared.strings.Strings.{Strings}
@@ -26,17 +24,21 @@ given-present false l = refl
 
 -- the parts that the code hands over are those of the issuer's certificate and of the one that claims
 pub keys-fit : (s : List ℕ) (issuer subject : Record) (claim : Claim) (named : ℕ) (own : KeyIds) (strings : Strings)
-    (akid aserial skid serial : List ℕ) (r : Bool)
+    (akid aserial skid serial : List ℕ) (x y z r : Bool)
     → claim ≡ claimOf s subject → named ≡ headOf issuer s .flags → own ≡ keyIdsOf named issuer s → strings ≡ stringsOf issuer s
     → r
-    ≡ checkAuthKeyId (given (eqb (claim .flags % 2) 1) akid) (given (eqb (claim .flags / 2 % 2) 1) aserial) (given (eqb (named / 4 % 2) 1) skid) serial
+    ≡ checkAuthKeyId (given x akid) (given y aserial) (given z skid) serial
+    → x ≡ hasAuthorityKeyId (claim .flags) → y ≡ hasAuthoritySerial (claim .flags) → z ≡ hasSubjectKeyId named
     → akid ≡ bytesOf (claim .«key_id») s → aserial ≡ bytesOf (claim .serial) s → skid ≡ bytesOf (own .subject) s
     → serial ≡ bytesOf (strings .serial) s
     → r ≡ keysFit (certificateOf issuer s) (certificateOf subject s)
-unfolding keysFit certificateOf certificateBy claimOf flag
-keys-fit s issuer subject claim named own strings akid aserial skid serial r f n o t h a b c d =
+unfolding keysFit certificateOf certificateBy claimOf
+keys-fit s issuer subject claim named own strings akid aserial skid serial x y z r f n o t h u v w a b c d =
     h
     ∙ rw (
+      u,
+      v,
+      w,
       a,
       b,
       c,
@@ -45,10 +47,9 @@ keys-fit s issuer subject claim named own strings akid aserial skid serial r f n
       t,
       f,
       n,
-      div-one,
-      given-present (eqb (headOf subject s .flags % 2) 1),
-      given-present (eqb (headOf subject s .flags / 2 % 2) 1),
-      given-present (eqb (headOf issuer s .flags / 4 % 2) 1),
+      given-present (hasAuthorityKeyId (headOf subject s .flags)),
+      given-present (hasAuthoritySerial (headOf subject s .flags)),
+      given-present (hasSubjectKeyId (headOf issuer s .flags)),
     )
 
 module _ (s : List ℕ) (issuer subject : Record) where

@@ -7,7 +7,6 @@ use card::Bundle;
 use card::BundlePlace;
 use card::Card;
 use likely::claim_of;
-pub use likely::likely_issued;
 use row::bundle_row;
 use row::root_row;
 use rows::either;

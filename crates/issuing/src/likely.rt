@@ -1,4 +1,6 @@
 // Likely issued: the names fit and the key identifiers do.
+use extensions::Flags;
+use extensions::has_flag;
 use fields::Span;
 use fields::part;
 use keys::check_auth_key_id;
@@ -34,13 +36,6 @@ pub(crate) fn claim_of(file: &[u8], subject: Record) -> Claim
     }
 }
 
-// Whether the subject's issuer name is the issuer's subject name, normalised, and its authority key id fits.
-pub fn likely_issued(file: &[u8], issuer: Record, subject: Record) -> bool
-    ensures { λ r. ⌜ r ≡ likelyIssuedAt (now (file .entry)) issuer subject ⌝ }
-{
-    fits(file, issuer, claim_of(file, subject))
-}
-
 // Whether an issuer is the one that a claim speaks of: its key ids fit, and its subject name is the name, normalised.
 pub(crate) fn fits(file: &[u8], issuer: Record, claim: Claim) -> bool
     ensures { λ r. ⌜ ((subject : Record) → claim ≡ claimOf (now (file .entry)) subject → r ≡ likelyIssuedAt (now (file .entry)) issuer subject) ⌝ }
@@ -60,11 +55,11 @@ fn keys_fit(file: &[u8], issuer: Record, claim: Claim) -> bool
     let own = issuer.key_ids(file, named);
     let strings = issuer.strings(file);
     check_auth_key_id(
-        flags % 2 == 1,
+        has_flag(flags, Flags::AUTHORITY_KEY_ID),
         part(file, claim.key_id),
-        flags / 2 % 2 == 1,
+        has_flag(flags, Flags::AUTHORITY_SERIAL),
         part(file, claim.serial),
-        named / 4 % 2 == 1,
+        has_flag(named, Flags::SUBJECT_KEY_ID),
         part(file, own.subject),
         part(file, strings.serial),
     )

@@ -1,5 +1,4 @@
-pub mod Items
 pub mod Meaning
 pub mod Pinned
-pub mod Rows
+pub mod Runs
 pub mod Values

@@ -13,33 +13,33 @@ use Rattle.fields.proofs.Counts.{count-read}
 use Rattle.fields.proofs.Many.{many-length, many-nth}
 use Rattle.fields.proofs.Strings.{span-read, string-by-span}
 use Rattle.lists.specs.Lists.{usageP, dnsNameP, usageMost, dnsNameMost}
-use Rattle.lists.specs.Rows.{rowP}
-use Rattle.lists.specs.declared.Row.{Row}
+use Rattle.lists.specs.Runs.{runP}
+use Rattle.lists.specs.declared.Run.{Run}
 
-pub record RowRead {A : Type 0} (most : ℕ) (p : List ℕ → ℕ → Parsed A) (s : List ℕ) (r : Row) (e : ℕ) : Type 0 where
+pub record RunRead {A : Type 0} (most : ℕ) (p : List ℕ → ℕ → Parsed A) (s : List ℕ) (r : Run) (e : ℕ) : Type 0 where
   pub things : List A
   pub few : r .count ≤ most
   pub are : many p (r .count) s (r .first) ≡ got things e
   pub as-many : length things ≡ r .count
 
 module _ {A : Type 0} (most : ℕ) (p : List ℕ → ℕ → Parsed A) (s : List ℕ) where
-  pub row-read : (at : ℕ) (r : Row) (e : ℕ) → rowP most p s at ≡ got r e → RowRead most p s r e
-  unfolding rowP
-  row-read at r e h =
+  pub run-read : (at : ℕ) (r : Run) (e : ℕ) → runP most p s at ≡ got r e → RunRead most p s r e
+  unfolding runP
+  run-read at r e h =
       let count = after-got (countP 0 most s at) _ h in
-      let row = after-got (many p (count .value) s (count .place)) _ (count .next) in
-      got-is (RowRead most p s) (row .next)
+      let run = after-got (many p (count .value) s (count .place)) _ (count .next) in
+      got-is (RunRead most p s) (run .next)
       (record {
-        things = row .value;
+        things = run .value;
         few = count-read 0 most s at _ _ (count .first) .few;
-        are = row .first;
-        as-many = many-length p s _ _ _ _ (row .first);
+        are = run .first;
+        as-many = many-length p s _ _ _ _ (run .first);
       })
 
   -- what holds of whatever p reads holds of each thing of the list
-  pub row-each : (Q : A → Type 0) → ((at : ℕ) (a : A) (e : ℕ) → p s at ≡ got a e → Q a)
-      → (r : Row) (e : ℕ) (t : RowRead most p s r e) (d : A) (i : ℕ) → i < r .count → Q (getD (t .things) i d)
-  row-each Q h r e t d i l =
+  pub run-each : (Q : A → Type 0) → ((at : ℕ) (a : A) (e : ℕ) → p s at ≡ got a e → Q a)
+      → (r : Run) (e : ℕ) (t : RunRead most p s r e) (d : A) (i : ℕ) → i < r .count → Q (getD (t .things) i d)
+  run-each Q h r e t d i l =
       let n = many-nth p s d i (r .count) (r .first) (t .things) e l (t .are) in
       h (n .place) (getD (t .things) i d) (n .past) (n .is)
 

@@ -1,10 +1,10 @@
 -- What each case of an answer stands for: the list and the place past it, or the number of the fault. Assumes nothing.
 use Rattle.fields.specs.Fields.{Parsed, got, stop}
 use Rattle.fields.specs.Answers.{number}
-use Rattle.lists.specs.declared.Row.{Row}
-use Rattle.lists.specs.declared.RowAt.{RowAt}
-use Rattle.lists.specs.declared.RowAt.the-variants as row
+use Rattle.lists.specs.declared.Run.{Run}
+use Rattle.lists.specs.declared.RunAt.{RunAt}
+use Rattle.lists.specs.declared.RunAt.the-variants as run
 
-abbrev pub listed : RowAt → Parsed Row
-listed (row.Got v e) = got v e
-listed (row.Stop f) = stop (number f)
+abbrev pub listed : RunAt → Parsed Run
+listed (run.Got v e) = got v e
+listed (run.Stop f) = stop (number f)

@@ -1,3 +1,3 @@
 pub mod Lists
-pub mod Rows
+pub mod Runs
 pub mod Answers

@@ -1,6 +1,6 @@
 // A list of DNS names: a count, then a string for each.
-use crate::Row;
-use crate::RowAt;
+use crate::Run;
+use crate::RunAt;
 use fields::CountAt;
 use fields::Fault;
 use fields::Past;
@@ -11,44 +11,27 @@ ghost use mathlib.Core.Path.{_≡_};
 ghost use Rattle.fields.specs.Fields.{many};
 ghost use Rattle.fields.specs.Answers.{passed, passing, spanned};
 ghost use Rattle.lists.specs.Lists.{dnsNameP};
-ghost use Rattle.lists.specs.Rows.{dnsSpanP, dnsNamesP, itemP};
+ghost use Rattle.lists.specs.Runs.{dnsSpanP, dnsNamesP};
 ghost use Rattle.lists.specs.Answers.{listed};
 
 // The DNS names at a place.
-pub fn dns_names_at(file: &[u8], at: usize) -> RowAt
+pub fn dns_names_at(file: &[u8], at: usize) -> RunAt
     ensures { λ r. ⌜ listed r ≡ dnsNamesP (now (file .entry)) at ⌝ }
 {
-    match count_at(file, at, Row::DNS_NAMES_LEAST, Row::DNS_NAMES_MOST) {
+    match count_at(file, at, Run::DNS_NAMES_LEAST, Run::DNS_NAMES_MOST) {
         CountAt::Got { count, next: first } => match dns_names_past(file, first, count) {
             Past::Got(next) => {
-                return RowAt::Got {
-                    row: Row { count, first },
+                return RunAt::Got {
+                    run: Run { count, first },
                     next,
                 };
             }
             Past::Stop(fault) => {
-                return RowAt::Stop(fault);
+                return RunAt::Stop(fault);
             }
         },
         CountAt::Stop(fault) => {
-            return RowAt::Stop(fault);
-        }
-    }
-}
-
-// DNS name i of a record's DNS names.
-pub fn dns_name(file: &[u8], names: Row, i: usize) -> StringAt
-    ensures { λ r. ⌜ spanned r ≡ itemP dnsNameP dnsSpanP names i (now (file .entry)) ⌝ }
-{
-    if names.count <= i {
-        return StringAt::Stop(Fault::BadCount);
-    }
-    match dns_names_past(file, names.first, i) {
-        Past::Got(at) => {
-            return dns_name_at(file, at);
-        }
-        Past::Stop(fault) => {
-            return StringAt::Stop(fault);
+            return RunAt::Stop(fault);
         }
     }
 }
@@ -77,5 +60,5 @@ fn dns_names_past(file: &[u8], first: usize, n: usize) -> Past
 pub fn dns_name_at(file: &[u8], at: usize) -> StringAt
     ensures { λ r. ⌜ spanned r ≡ dnsSpanP (now (file .entry)) at ⌝ }
 {
-    string_at(file, at, Row::DNS_NAME_LEAST, Row::DNS_NAME_MOST)
+    string_at(file, at, Run::DNS_NAME_LEAST, Run::DNS_NAME_MOST)
 }

@@ -1,23 +1,21 @@
-// The lists of a certificate's record, usages and DNS names: how many there are and where the first stands, and thing i of a list.
+// The lists of a certificate's record, usages and DNS names: how many there are and where the first stands, and the usage or DNS name at a place.
 // What a record has beside its lists is left to the crates above.
 mod dns_names;
 mod usages;
 
-pub use dns_names::dns_name;
 pub use dns_names::dns_name_at;
 pub use dns_names::dns_names_at;
 use fields::Fault;
-pub use usages::usage;
 pub use usages::usage_at;
 pub use usages::usages_at;
 
 // A list that was read: how many things it has, and where the first one stands.
-pub struct Row {
+pub struct Run {
     pub count: usize,
     pub first: usize,
 }
 
-impl Row {
+impl Run {
     pub const USAGES_LEAST: usize = 0;
 
     pub const USAGES_MOST: usize = 8;
@@ -33,7 +31,7 @@ impl Row {
     pub const DNS_NAME_MOST: usize = 253;
 }
 
-pub enum RowAt {
-    Got { row: Row, next: usize },
+pub enum RunAt {
+    Got { run: Run, next: usize },
     Stop(Fault),
 }

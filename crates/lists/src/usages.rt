@@ -1,6 +1,6 @@
 // A list of usages: a count, then a byte for each.
-use crate::Row;
-use crate::RowAt;
+use crate::Run;
+use crate::RunAt;
 use fields::CountAt;
 use fields::Fault;
 use fields::Past;
@@ -10,44 +10,27 @@ ghost use mathlib.Core.Path.{_≡_};
 ghost use Rattle.fields.specs.Fields.{many};
 ghost use Rattle.fields.specs.Answers.{counted, passed, passing};
 ghost use Rattle.lists.specs.Lists.{usageP};
-ghost use Rattle.lists.specs.Rows.{usagesP, itemP};
+ghost use Rattle.lists.specs.Runs.{usagesP};
 ghost use Rattle.lists.specs.Answers.{listed};
 
 // The usages at a place.
-pub fn usages_at(file: &[u8], at: usize) -> RowAt
+pub fn usages_at(file: &[u8], at: usize) -> RunAt
     ensures { λ r. ⌜ listed r ≡ usagesP (now (file .entry)) at ⌝ }
 {
-    match count_at(file, at, Row::USAGES_LEAST, Row::USAGES_MOST) {
+    match count_at(file, at, Run::USAGES_LEAST, Run::USAGES_MOST) {
         CountAt::Got { count, next: first } => match usages_past(file, first, count) {
             Past::Got(next) => {
-                return RowAt::Got {
-                    row: Row { count, first },
+                return RunAt::Got {
+                    run: Run { count, first },
                     next,
                 };
             }
             Past::Stop(fault) => {
-                return RowAt::Stop(fault);
+                return RunAt::Stop(fault);
             }
         },
         CountAt::Stop(fault) => {
-            return RowAt::Stop(fault);
-        }
-    }
-}
-
-// Usage i of a record's usages.
-pub fn usage(file: &[u8], usages: Row, i: usize) -> CountAt
-    ensures { λ r. ⌜ counted r ≡ itemP usageP usageP usages i (now (file .entry)) ⌝ }
-{
-    if usages.count <= i {
-        return CountAt::Stop(Fault::BadCount);
-    }
-    match usages_past(file, usages.first, i) {
-        Past::Got(at) => {
-            return usage_at(file, at);
-        }
-        Past::Stop(fault) => {
-            return CountAt::Stop(fault);
+            return RunAt::Stop(fault);
         }
     }
 }
@@ -78,7 +61,7 @@ pub fn usage_at(file: &[u8], at: usize) -> CountAt
 {
     match byte_at(file, at) {
         CountAt::Got { count: usage, next } => {
-            if Row::USAGE_MOST < usage {
+            if Run::USAGE_MOST < usage {
                 return CountAt::Stop(Fault::BadValue);
             }
             return CountAt::Got { count: usage, next };

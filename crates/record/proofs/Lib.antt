@@ -2,7 +2,6 @@ pub mod Onward
 pub mod Heads
 pub mod Flags
 pub mod Frauds
-pub mod Items
 pub mod Meaning
 pub mod Pinned
 pub mod Values

@@ -15,7 +15,7 @@ use Rattle.fields.proofs.Counts.{byte-few, count-read}
 use Rattle.fields.proofs.Strings.{SpanRead, span-read}
 use Rattle.names.specs.Names.{Attr, nameP, nameMost}
 use Rattle.lists.specs.Lists.{usageP, dnsNameP, usagesMost}
-use Rattle.lists.specs.Rows.{usagesP, rowP}
+use Rattle.lists.specs.Runs.{usagesP, runP}
 use Rattle.extensions.specs.Extensions.{keyIdsP, pathLengthP, extensionsP}
 use Rattle.extensions.specs.Flags.{serialMost}
 use Rattle.extensions.specs.declared.Extensions.{Extensions}
@@ -137,7 +137,7 @@ name-there s at n e h =
 
 -- what is behind the names begins within the file, since its lists do
 extensions-there : (flags : ℕ) (s : List ℕ) (at : ℕ) (x : Extensions) (e : ℕ) → extensionsP flags s at ≡ got x e → at < length s
-unfolding extensionsP rowP
+unfolding extensionsP runP
 extensions-there flags s at x e h =
     let keys = after-got (keyIdsP flags s at) _ h in
     let path = after-got (pathLengthP flags s (keys .place)) _ (keys .next) in

@@ -12,7 +12,7 @@ use Rattle.fields.proofs.Counts.{count-read}
 use Rattle.fields.proofs.Strings.{span-read, string-by-span}
 use Rattle.names.specs.Names.{attrP, rdnP, nameP, oidMost, valueMost, rdnMost, nameMost}
 use Rattle.lists.specs.Lists.{usageP, dnsNameP, usageMost, usagesMost, dnsNameMost, dnsNamesMost}
-use Rattle.lists.specs.Rows.{usagesP, dnsNamesP, rowP}
+use Rattle.lists.specs.Runs.{usagesP, dnsNamesP, runP}
 use Rattle.extensions.specs.Extensions.{spanIfP, keyIdsP, pathLengthP, extensionsP}
 use Rattle.extensions.specs.Flags.{flag, keyIdMost, serialMost}
 use Rattle.record.specs.Record.{stringsP}
@@ -68,9 +68,9 @@ module _ {A : Type 0} (p : List ℕ → ℕ → Parsed A) (s : List ℕ) (on : (
   unfolding countedP
   counted-onward least most at = onward-after (countP least most s at) _ (count-onward s least most at) (λ n e. many-onward n e)
 
-  row-onward : (most at : ℕ) → Onward at (rowP most p s at)
-  unfolding rowP
-  row-onward most at =
+  run-onward : (most at : ℕ) → Onward at (runP most p s at)
+  unfolding runP
+  run-onward most at =
       onward-after (countP 0 most s at) _ (no-earlier (count-onward s 0 most at)) (λ n e.
       onward-after (many p n s e) _ (many-onward n e) (λ l f.
       onward-got f _ f (omega arith)))
@@ -142,6 +142,6 @@ module _ (s : List ℕ) where
   extensions-onward flags at =
       onward-after (keyIdsP flags s at) _ (key-ids-onward flags at) (λ k e.
       onward-after (pathLengthP flags s e) _ (path-length-onward flags e) (λ p f.
-      onward-after (usagesP s f) _ (row-onward usageP s usage-onward usagesMost f) (λ u g.
-      onward-after (dnsNamesP s g) _ (row-onward dnsNameP s dns-name-onward dnsNamesMost g) (λ d h.
+      onward-after (usagesP s f) _ (run-onward usageP s usage-onward usagesMost f) (λ u g.
+      onward-after (dnsNamesP s g) _ (run-onward dnsNameP s dns-name-onward dnsNamesMost g) (λ d h.
       onward-got h _ h (omega arith)))))

@@ -11,7 +11,7 @@ use Rattle.fields.proofs.Strings.{string-by-span}
 use Rattle.fields.proofs.Values.{valued, after-known, after-same, after-after, by-place, read-again}
 use Rattle.names.specs.Names.{Attr, nameP}
 use Rattle.lists.specs.Lists.{usageP, dnsNameP}
-use Rattle.lists.specs.Rows.{usagesP, dnsNamesP}
+use Rattle.lists.specs.Runs.{usagesP, dnsNamesP}
 use Rattle.extensions.specs.Flags.{hasAuthorityKeyId, hasAuthoritySerial, hasSubjectKeyId, hasPathLength, serialMost}
 use Rattle.extensions.specs.Extensions.{present, keyIdsP, pathLengthP, extensionsP}
 use Rattle.extensions.specs.declared.Extensions.{Extensions}

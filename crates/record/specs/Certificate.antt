@@ -56,21 +56,21 @@ certificateP s at =
     after (countedP 0 usagesMost usageP s m) (λ usages n.
     after (countedP 0 dnsNamesMost dnsNameP s n) (λ dnsNames o.
     got
-      (record {
-        version = version;
-        flags = flags;
-        not-before = notBefore;
-        not-after = notAfter;
-        serial = serial;
-        outer = outer;
-        inner = inner;
-        issuer = issuer;
-        subject = subject;
-        authority-key-id = authorityKeyId;
-        authority-serial = authoritySerial;
-        subject-key-id = subjectKeyId;
-        path-length = pathLength;
-        usages = usages;
-        dns-names = dnsNames;
-      })
-      o)))))))))))))))
+    (record {
+      version = version;
+      flags = flags;
+      not-before = notBefore;
+      not-after = notAfter;
+      serial = serial;
+      outer = outer;
+      inner = inner;
+      issuer = issuer;
+      subject = subject;
+      authority-key-id = authorityKeyId;
+      authority-serial = authoritySerial;
+      subject-key-id = subjectKeyId;
+      path-length = pathLength;
+      usages = usages;
+      dns-names = dnsNames;
+    })
+    o)))))))))))))))

@@ -1,6 +1,6 @@
 -- What stands where nothing was read. Assumes nothing.
 use Rattle.fields.specs.Spans.{nowhere}
-use Rattle.lists.specs.declared.Row.{Row}
+use Rattle.lists.specs.declared.Run.{Run}
 use Rattle.extensions.specs.declared.KeyIds.{KeyIds}
 use Rattle.extensions.specs.declared.Extensions.{Extensions}
 use Rattle.record.specs.declared.head.Head.{Head}
@@ -20,7 +20,7 @@ no-strings = record { serial = nowhere; outer = nowhere; inner = nowhere }
 abbrev pub no-key-ids : KeyIds
 no-key-ids = record { authority = nowhere; «authority_serial» = nowhere; subject = nowhere }
 
-abbrev pub none-listed : Row
+abbrev pub none-listed : Run
 none-listed = record { count = 0; first = 0 }
 
 abbrev pub no-extensions : Extensions

@@ -1,10 +1,14 @@
 // The head of a record: version, flags, and the two dates.
+use extensions::Flags;
+use extensions::has_flag;
 use fields::CountAt;
 use fields::Fault;
 use fields::NumberAt;
 use fields::byte_at;
 use fields::u64_at;
+ghost use mathlib.Core.Bool.{_&&_, not};
 ghost use mathlib.Core.Path.{_≡_};
+ghost use Rattle.extensions.specs.Flags.{flag};
 ghost use Rattle.fields.specs.Answers.{counted};
 ghost use Rattle.fields.specs.Fields.{got, after};
 ghost use Rattle.record.specs.Record.{openingP, datesP, headP};
@@ -101,7 +105,7 @@ pub(crate) fn flags_past(file: &[u8], at: usize) -> CountAt
     }
 }
 
-// Any version; flags of which 16 needs 8 and 64 needs 32, judged when they are read.
+// Any version; flags of which a path length's needs a CA's, and that to sign a key usage's, judged when they are read.
 fn flags_at(file: &[u8], at: usize) -> FlagsAt
     ensures { λ r. ⌜ flagged r ≡ openingP (now (file .entry)) at ⌝ }
 {
@@ -111,10 +115,10 @@ fn flags_at(file: &[u8], at: usize) -> FlagsAt
             next: a,
         } => match byte_at(file, a) {
             CountAt::Got { count: flags, next } => {
-                if flags / 8 % 2 < flags / 16 % 2 {
+                if lacks(flags, Flags::PATH_LENGTH, Flags::CA) {
                     return FlagsAt::Stop(Fault::BadValue);
                 }
-                if flags / 32 % 2 < flags / 64 % 2 {
+                if lacks(flags, Flags::MAY_SIGN, Flags::KEY_USAGE) {
                     return FlagsAt::Stop(Fault::BadValue);
                 }
                 return FlagsAt::Got {
@@ -131,6 +135,16 @@ fn flags_at(file: &[u8], at: usize) -> FlagsAt
             return FlagsAt::Stop(fault);
         }
     }
+}
+
+// Whether one flag is set without the other that it needs.
+fn lacks(flags: usize, one: usize, other: usize) -> bool
+    ensures { λ r. ⌜ r ≡ flag one flags && not (flag other flags) ⌝ }
+{
+    if has_flag(flags, one) {
+        return !has_flag(flags, other);
+    }
+    false
 }
 
 fn dates_at(file: &[u8], at: usize) -> DatesAt

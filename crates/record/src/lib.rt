@@ -18,7 +18,7 @@ pub use head::Head;
 use head::HeadAt;
 use head::flags_past;
 use head::head_at;
-use lists::Row;
+use lists::Run;
 pub use parties::Names;
 use parties::NamesAt;
 use parties::names_at;
@@ -179,7 +179,7 @@ impl Record {
                 return extensions;
             }
             ExtensionsAt::Stop(_) => {
-                let none = Row { count: 0, first: 0 };
+                let none = Run { count: 0, first: 0 };
                 return Extensions {
                     key_ids: KeyIds {
                         authority: Span::NOWHERE,

@@ -1,5 +1,5 @@
--- One of the things in a row passes a test, for any things and any test. A loop over the row: a turn that goes on (`any-next`), one
--- that finds a thing that passes (`any-found`), one that stops (`any-stops`), and its end (`any-ends`). And the row as a list that was
+-- One of the things in a row passes a test, for any things and any test. A loop over the run: a turn that goes on (`any-next`), one
+-- that finds a thing that passes (`any-found`), one that stops (`any-stops`), and its end (`any-ends`). And the run as a list that was
 -- read (`any-read`). Assumes nothing.
 use Prim.Native.Nat.{ℕ, zero, suc, _-_, _<_, _≤_}
 use mathlib.Core.Path.{_≡_, refl, sym, ap, _∙_}
@@ -9,12 +9,12 @@ use native.Mathlib.Omega.{arith}
 use Rattle.text.specs.Each.{any}
 use Rattle.fields.specs.Fields.{Parsed, got, stop, many}
 use Rattle.fields.proofs.Many.{many-split}
-use Rattle.lists.specs.declared.Row.{Row}
-use Rattle.lists.proofs.Meaning.{RowRead}
+use Rattle.lists.specs.declared.Run.{Run}
+use Rattle.lists.proofs.Meaning.{RunRead}
 use Rattle.rules.specs.Records.{passes, anyOf}
 
 module _ {A : Type 0} (test : A → Bool) (p : List ℕ → ℕ → Parsed A) (s : List ℕ) where
-  -- a row of none, and a row by its first thing
+  -- a run of none, and a run by its first thing
   any-none : (n at : ℕ) → n ≤ 0 → anyOf test p n s at ≡ false
   unfolding anyOf
   any-none zero at h = refl
@@ -49,7 +49,7 @@ module _ {A : Type 0} (test : A → Bool) (p : List ℕ → ℕ → Parsed A) (s
     pub any-ends : Left first n at left → left ≤ 0 → false ≡ anyOf test p n s first
     any-ends i h = sym (i ∙ any-none left at h)
 
-  -- ---- a row that was read
+  -- ---- a run that was read
 
   any-things : (n at : ℕ) (l : List A) (e : ℕ) → many p n s at ≡ got l e → anyOf test p n s at ≡ any test l
   unfolding many
@@ -62,5 +62,5 @@ module _ {A : Type 0} (test : A → Bool) (p : List ℕ → ℕ → Parsed A) (s
       ∙ sym (ap (any test) (t .whole))
 
   -- the test of the things in a row is that of the list that was read
-  pub any-read : (most : ℕ) (row : Row) (e : ℕ) (t : RowRead most p s row e) → anyOf test p (row .count) s (row .first) ≡ any test (t .things)
-  any-read most row e t = any-things (row .count) (row .first) (t .things) e (t .are)
+  pub any-read : (most : ℕ) (run : Run) (e : ℕ) (t : RunRead most p s run e) → anyOf test p (run .count) s (run .first) ≡ any test (t .things)
+  any-read most run e t = any-things (run .count) (run .first) (t .things) e (t .are)

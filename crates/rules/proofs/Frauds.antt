@@ -6,15 +6,15 @@ use Rattle.text.specs.Bytes.{lowered, same, startsWith}
 use Rattle.text.specs.Wildcard.{matchName}
 use Rattle.fields.specs.Fields.{countP, bytesP, stringP}
 use Rattle.lists.specs.Lists.{dnsNameP}
-use Rattle.rules.specs.Rules.{names}
+use Rattle.rules.specs.Rules.{namesHost}
 use Rattle.rules.specs.Records.{passes, anyOf, forHostAt}
 
 -- the host compared as it stands: "A" refused under the DNS name "a"
 pub host-not-lowered : false ≡ forHostAt (1 ∷ 97 ∷ []) (65 ∷ []) (record { count = 1; first = 0 }) → ⊥
-unfolding forHostAt anyOf passes dnsNameP stringP bytesP countP names matchName lowered same startsWith
+unfolding forHostAt anyOf passes dnsNameP stringP bytesP countP namesHost matchName lowered same startsWith
 host-not-lowered e = false≢true e
 
 -- a DNS name compared as it stands: "a" refused under the DNS name "A"
 pub dns-name-not-lowered : false ≡ forHostAt (1 ∷ 65 ∷ []) (97 ∷ []) (record { count = 1; first = 0 }) → ⊥
-unfolding forHostAt anyOf passes dnsNameP stringP bytesP countP names matchName lowered same startsWith
+unfolding forHostAt anyOf passes dnsNameP stringP bytesP countP namesHost matchName lowered same startsWith
 dns-name-not-lowered e = false≢true e

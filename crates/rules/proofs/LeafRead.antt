@@ -1,4 +1,4 @@
--- What is asked of the leaf by the rows of its record is what is asked of the certificate, where the record stands in the file:
+-- What is asked of the leaf by the runs of its record is what is asked of the certificate, where the record stands in the file:
 -- usages (`for-servers-read`) and the host (`for-host-read`). Assumes nothing.
 use Prim.Native.Nat.{ℕ}
 use mathlib.Core.Path.{_≡_}
@@ -7,7 +7,7 @@ use Rattle.lists.specs.Lists.{usageP, dnsNameP}
 use Rattle.record.specs.Parts.{headOf, extensionsOf, certificateOf}
 use Rattle.record.specs.declared.Record.{Record}
 use Rattle.record.proofs.Meaning.{RecordRead, extensions-of, extensions-read-of, says-usages, says-dns-names}
-use Rattle.rules.specs.Rules.{serving, names, forServers, forHost}
+use Rattle.rules.specs.Rules.{serving, namesHost, forServers, forHost}
 use Rattle.rules.specs.Records.{forServersAt, forHostAt}
 use Rattle.rules.proofs.AnyOf.{any-read}
 
@@ -22,4 +22,4 @@ module _ (s : List ℕ) (r : Record) (e : ℕ) (t : RecordRead s r e) where
   unfolding forHostAt forHost
   for-host-read host =
       let d = extensions-read-of s r e t .dns-names in
-      rw (extensions-of s r e t, says-dns-names s r e t, any-read (names host) dnsNameP s _ (t .extensions-are .«dns_names») _ d)
+      rw (extensions-of s r e t, says-dns-names s r e t, any-read (namesHost host) dnsNameP s _ (t .extensions-are .«dns_names») _ d)

@@ -1,16 +1,17 @@
--- A certificate's limit: its path length where flag 16 is set (`limit-given`), and else none (`no-limit`). A path length is a byte
+-- A certificate's limit: its path length where it has one (`limit-given`), and else none (`no-limit`). A path length is a byte
 -- (`path-length-byte`). Of as many certificates as a path can have the limit says what the path length allows (`limit-allows`).
 -- Assumes nothing.
-use Prim.Native.Nat.{ℕ, _/_, _%_, _≤_}
+use Prim.Native.Nat.{ℕ, _≤_}
 use mathlib.Core.Path.{_≡_, refl}
+use mathlib.Core.Bool.{true, false}
 use mathlib.Core.List.{List}
 use mathlib.Core.Option.{Option, none, some}
 use native.Mathlib.Omega.{arith}
 use lib.Dec.{leb}
-use borrow.Author.Tests.{eq-eqb, ne-eqb, le-leb}
+use borrow.Author.Tests.{le-leb}
 use Rattle.fields.specs.Fields.{Parsed, got, stop}
 use Rattle.extensions.specs.Extensions.{extensionsP}
-use Rattle.extensions.specs.Flags.{flag}
+use Rattle.extensions.specs.Flags.{hasPathLength}
 use Rattle.record.specs.Certificate.{Certificate}
 use Rattle.record.specs.Parts.{valueOr, extensionsOf, certificateBy}
 use Rattle.record.specs.Fresh.{no-extensions}
@@ -22,13 +23,13 @@ use Rattle.rules.specs.Rules.{atMost, allows}
 use Rattle.rules.specs.Limits.{orNoLimit, limitOf}
 
 module _ (r : Record) (s : List ℕ) (head : Head) where
-  pub limit-given : head .flags / 16 % 2 ≡ 1 → (x : Extensions) → x ≡ extensionsOf (head .flags) r s → x .«path_length» ≡ limitOf (certificateBy head r s)
-  unfolding limitOf certificateBy flag
-  limit-given f x q = rw (eq-eqb (head .flags / 16 % 2) 1 f, q)
+  pub limit-given : hasPathLength (head .flags) ≡ true → (x : Extensions) → x ≡ extensionsOf (head .flags) r s → x .«path_length» ≡ limitOf (certificateBy head r s)
+  unfolding limitOf certificateBy
+  limit-given f x q = rw (f, q)
 
-  pub no-limit : (head .flags / 16 % 2 ≡ 1 → ⊥) → 255 ≡ limitOf (certificateBy head r s)
-  unfolding limitOf certificateBy flag
-  no-limit f = rw (ne-eqb (head .flags / 16 % 2) 1 f)
+  pub no-limit : hasPathLength (head .flags) ≡ false → 255 ≡ limitOf (certificateBy head r s)
+  unfolding limitOf certificateBy
+  no-limit f = rw f
 
 -- a path length is a byte, and 0 where it can't be read
 pub path-length-byte : (flags : ℕ) (r : Record) (s : List ℕ) (x : Extensions) → x ≡ extensionsOf flags r s → x .«path_length» ≤ 255

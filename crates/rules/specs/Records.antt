@@ -1,4 +1,4 @@
--- What Rules asks of the leaf's usages and DNS names, asked of a record's rows as they are, whether a reader made them or not. Assumes
+-- What Rules asks of the leaf's usages and DNS names, asked of a record's runs as they are, whether a reader made them or not. Assumes
 -- nothing.
 use Prim.Native.Nat.{ℕ, zero, suc}
 use mathlib.Core.Bool.{Bool, false, _||_}
@@ -7,8 +7,8 @@ use lib.Dec.{eqb}
 use lib.ListN.{length}
 use Rattle.fields.specs.Fields.{Parsed, got, stop}
 use Rattle.lists.specs.Lists.{usageP, dnsNameP}
-use Rattle.lists.specs.declared.Row.{Row}
-use Rattle.rules.specs.Rules.{serving, names}
+use Rattle.lists.specs.declared.Run.{Run}
+use Rattle.rules.specs.Rules.{serving, namesHost}
 
 -- what was found passes, or else `rest` where it ends
 unfoldable pub passes : {A : Type 0} → (A → Bool) → Parsed A → (ℕ → Bool) → Bool
@@ -20,8 +20,8 @@ unfoldable pub anyOf : {A : Type 0} → (A → Bool) → (List ℕ → ℕ → P
 anyOf test p zero s at = false
 anyOf test p (suc n) s at = passes test (p s at) (λ e. anyOf test p n s e)
 
-unfoldable pub forServersAt : List ℕ → Row → Bool
+unfoldable pub forServersAt : List ℕ → Run → Bool
 forServersAt s usages = eqb (usages .count) 0 || anyOf serving usageP (usages .count) s (usages .first)
 
-unfoldable pub forHostAt : List ℕ → List ℕ → Row → Bool
-forHostAt s host dns = eqb (length host) 0 || anyOf (names host) dnsNameP (dns .count) s (dns .first)
+unfoldable pub forHostAt : List ℕ → List ℕ → Run → Bool
+forHostAt s host dns = eqb (length host) 0 || anyOf (namesHost host) dnsNameP (dns .count) s (dns .first)

@@ -5,7 +5,7 @@ use mathlib.Core.List.{List, map}
 use mathlib.Core.Option.{Option, none, some}
 use lib.Dec.{eqb, leb}
 use lib.ListN.{length}
-use Rattle.extensions.specs.Flags.{flag}
+use Rattle.extensions.specs.Flags.{ca, hasKeyUsage, maySign, unhandled}
 use Rattle.text.specs.Bytes.{lowered, same}
 use Rattle.text.specs.Each.{any}
 use Rattle.text.specs.Wildcard.{matchName}
@@ -24,13 +24,13 @@ inDate time c = leb (c .not-before) (time .now) && leb (time .now) (c .not-after
 unfoldable pub wellFormed : Certificate → Bool
 wellFormed c = eqb (c .version) 2 && same (c .outer) (c .inner)
 
--- not flag 128
+-- no unhandled critical extension
 unfoldable pub handled : Certificate → Bool
-handled c = not (flag 128 (c .flags))
+handled c = not (unhandled (c .flags))
 
--- a CA, and where flag 32 is set, 64 is too
+-- a CA, and where key usage is present, it may sign certificates
 unfoldable pub authority : Certificate → Bool
-authority c = flag 8 (c .flags) && (not (flag 32 (c .flags)) || flag 64 (c .flags))
+authority c = ca (c .flags) && (not (hasKeyUsage (c .flags)) || maySign (c .flags))
 
 -- n is no more than a path length, where there is one
 abbrev pub atMost : ℕ → Option ℕ → Bool
@@ -50,9 +50,9 @@ unfoldable pub forServers : Certificate → Bool
 forServers c = eqb (length (c .usages)) 0 || any serving (c .usages)
 
 -- a DNS name matches a host, both lowered
-unfoldable pub names : List ℕ → List ℕ → Bool
-names host dns = matchName (map lowered dns) (map lowered host)
+unfoldable pub namesHost : List ℕ → List ℕ → Bool
+namesHost host dns = matchName (map lowered dns) (map lowered host)
 
 -- if a host is asked, some DNS name matches it
 unfoldable pub forHost : List ℕ → Certificate → Bool
-forHost host c = eqb (length host) 0 || any (names host) (c .dns-names)
+forHost host c = eqb (length host) 0 || any (namesHost host) (c .dns-names)

@@ -2,17 +2,17 @@
 use fields::CountAt;
 use fields::StringAt;
 use fields::part;
-use lists::Row;
+use lists::Run;
 use lists::dns_name_at;
 use lists::usage_at;
 use text::match_lowered;
 ghost use mathlib.Core.Path.{_≡_};
 ghost use Rattle.lists.specs.Lists.{usageP, dnsNameP};
-ghost use Rattle.rules.specs.Rules.{serving, names};
+ghost use Rattle.rules.specs.Rules.{serving, namesHost};
 ghost use Rattle.rules.specs.Records.{anyOf, forServersAt, forHostAt};
 
 // Usages: none listed, or server or any among them.
-pub fn for_servers(file: &[u8], usages: Row) -> bool
+pub fn for_servers(file: &[u8], usages: Run) -> bool
     ensures { λ r. ⌜ r ≡ forServersAt (now (file .entry)) usages ⌝ }
 {
     if usages.count == 0 {
@@ -58,7 +58,7 @@ fn serving(usage: usize) -> bool
 }
 
 // If a host is asked, some DNS name matches it, both lowered.
-pub fn for_host(file: &[u8], host: &[u8], dns: Row) -> bool
+pub fn for_host(file: &[u8], host: &[u8], dns: Run) -> bool
     ensures { λ r. ⌜ r ≡ forHostAt (now (file .entry)) (now (host .entry)) dns ⌝ }
 {
     if host.len() == 0 {
@@ -69,7 +69,7 @@ pub fn for_host(file: &[u8], host: &[u8], dns: Row) -> bool
 
 // One of n DNS names matches the host.
 fn any_names(file: &[u8], host: &[u8], first: usize, n: usize) -> bool
-    ensures { λ r. ⌜ r ≡ anyOf (names (now (host .entry))) dnsNameP n (now (file .entry)) first ⌝ }
+    ensures { λ r. ⌜ r ≡ anyOf (namesHost (now (host .entry))) dnsNameP n (now (file .entry)) first ⌝ }
 {
     let mut at = first;
     let mut left = n;

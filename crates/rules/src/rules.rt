@@ -1,4 +1,6 @@
 // What is asked of one certificate, a rule a function, in the paper's order. The head is read once for all rules.
+use extensions::Flags;
+use extensions::has_flag;
 use fields::part;
 use record::Head;
 use record::Record;
@@ -51,7 +53,7 @@ const V3: usize = 2;
 pub fn handled(head: Head) -> bool
     ensures { λ r. ⌜ ((cert : Record) (s : List ℕ) → r ≡ handled (certificateBy head cert s)) ⌝ }
 {
-    head.flags / 128 % 2 != 1
+    !has_flag(head.flags, Flags::UNHANDLED)
 }
 
 // A CA, which may sign certificates where it says what its key is for.
@@ -59,13 +61,13 @@ pub fn authority(head: Head) -> bool
     ensures { λ r. ⌜ ((cert : Record) (s : List ℕ) → r ≡ authority (certificateBy head cert s)) ⌝ }
 {
     let flags = head.flags;
-    if flags / 8 % 2 != 1 {
-        return false;
-    }
-    if flags / 32 % 2 != 1 {
+    if has_flag(flags, Flags::CA) {
+        if has_flag(flags, Flags::KEY_USAGE) {
+            return has_flag(flags, Flags::MAY_SIGN);
+        }
         return true;
     }
-    flags / 64 % 2 == 1
+    false
 }
 
 // How many certificates a path length lets stand between this one and the leaf; no limit where there is none.
@@ -73,7 +75,7 @@ pub fn limit(file: &[u8], head: Head, cert: Record) -> u8
     ensures { λ r. ⌜ r ≡ limitOf (certificateBy head cert (now (file .entry))) ⌝ }
 {
     let flags = head.flags;
-    if flags / 16 % 2 == 1 {
+    if has_flag(flags, Flags::PATH_LENGTH) {
         return cert.extensions(file, flags).path_length as u8;
     }
     NO_LIMIT

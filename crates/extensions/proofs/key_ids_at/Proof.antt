@@ -1,13 +1,29 @@
--- `key_ids_at` answers the parts that flags 1, 2 and 4 announce, one after the other, or the first fault.
+-- `key_ids_at` answers the parts that the flags announce, one after the other, or the first fault.
 -- A letter is the place after a part's call, and primed the place where the part was found. Assumes nothing.
 use borrow.Author.Needs.{needs}
-use mathlib.Core.Path.{sym, ap, _∙_}
-use native.Mathlib.Nat.{div-one}
-use Rattle.extensions.specs.Extensions.{keyIdsP}
-use Rattle.extensions.specs.Flags.{flag}
+use Prim.Native.Nat.{ℕ}
+use mathlib.Core.Path.{_≡_, sym, ap, _∙_}
+use mathlib.Core.Bool.{Bool}
+use mathlib.Core.List.{List}
+use Rattle.fields.specs.Fields.{Parsed}
+use Rattle.fields.specs.declared.string.Span.{Span}
+use Rattle.extensions.specs.Extensions.{spanIfP, keyIdsP}
 use Rattle.extensions.specs.Answers.{opted}
 use Rattle.extensions.proofs.key_ids_at.Statement.{statement}
 use Rattle.extensions.proofs.key_ids_at.Tie as tie
+
+-- a part's reader was handed its flag
+by-flag : (most : ℕ) (s : List ℕ) (at : ℕ) {b c : Bool} {x : Parsed Span} → b ≡ c → x ≡ spanIfP b most s at → spanIfP c most s at ≡ x
+by-flag most s at f h = sym (h ∙ ap (λ b. spanIfP b most s at) f)
+
+has-flag-requires : tie.Need-has-flag-requires
+has-flag-requires c κs = search needs
+
+has-flag-requires-2 : tie.Need-has-flag-requires-2
+has-flag-requires-2 c κs = search needs
+
+has-flag-requires-3 : tie.Need-has-flag-requires-3
+has-flag-requires-3 c κs = search needs
 
 option-at-requires : tie.Need-option-at-requires
 option-at-requires c κs = search needs
@@ -28,68 +44,70 @@ enum-known-subject : tie.Need-enum-known-subject
 enum-known-subject c = search needs
 
 returns : tie.Need-returns
-unfolding keyIdsP flag
+unfolding keyIdsP
 returns c =
     let s = c .before .before .before in
-    let r' = s .before .before in
+    let r' = s .before .before .before in
     let r = r' .before .before in
-    let a' = r .before .before in
+    let a' = r .before .before .before in
     let a = a' .before .before in
     rw (
-      div-one,
-      sym (a .option-at .ensures) ∙ ap opted (a' .authority .given .1),
-      sym (r .option-at2 .ensures) ∙ ap opted (r' .authority-serial .given .1),
-      sym (s .option-at3 .ensures) ∙ ap opted (c .before .subject .given .1),
+      by-flag _ _ _ (a .before .has-flag .ensures) (a .option-at .ensures) ∙ ap opted (a' .authority .given .1),
+      by-flag _ _ _ (r .before .has-flag2 .ensures) (r .option-at2 .ensures) ∙ ap opted (r' .authority-serial .given .1),
+      by-flag _ _ _ (s .before .has-flag3 .ensures) (s .option-at3 .ensures) ∙ ap opted (c .before .subject .given .1),
     )
 
 enum-known-fault : tie.Need-enum-known-fault
 enum-known-fault c = search needs
 
 returns-2 : tie.Need-returns-2
-unfolding keyIdsP flag
+unfolding keyIdsP
 returns-2 c =
     let s = c .before .before .before in
-    let r' = s .before .before in
+    let r' = s .before .before .before in
     let r = r' .before .before in
-    let a' = r .before .before in
+    let a' = r .before .before .before in
     let a = a' .before .before in
     rw (
-      div-one,
-      sym (a .option-at .ensures) ∙ ap opted (a' .authority .given .1),
-      sym (r .option-at2 .ensures) ∙ ap opted (r' .authority-serial .given .1),
-      sym (s .option-at3 .ensures) ∙ ap opted (c .before .fault .given .1),
+      by-flag _ _ _ (a .before .has-flag .ensures) (a .option-at .ensures) ∙ ap opted (a' .authority .given .1),
+      by-flag _ _ _ (r .before .has-flag2 .ensures) (r .option-at2 .ensures) ∙ ap opted (r' .authority-serial .given .1),
+      by-flag _ _ _ (s .before .has-flag3 .ensures) (s .option-at3 .ensures) ∙ ap opted (c .before .fault .given .1),
     )
 
 enum-known-fault-2 : tie.Need-enum-known-fault-2
 enum-known-fault-2 c = search needs
 
 returns-3 : tie.Need-returns-3
-unfolding keyIdsP flag
+unfolding keyIdsP
 returns-3 c =
     let r = c .before .before .before in
-    let a' = r .before .before in
+    let a' = r .before .before .before in
     let a = a' .before .before in
     rw (
-      div-one,
-      sym (a .option-at .ensures) ∙ ap opted (a' .authority .given .1),
-      sym (r .option-at2 .ensures) ∙ ap opted (c .before .fault2 .given .1),
+      by-flag _ _ _ (a .before .has-flag .ensures) (a .option-at .ensures) ∙ ap opted (a' .authority .given .1),
+      by-flag _ _ _ (r .before .has-flag2 .ensures) (r .option-at2 .ensures) ∙ ap opted (c .before .fault2 .given .1),
     )
 
 enum-known-fault-3 : tie.Need-enum-known-fault-3
 enum-known-fault-3 c = search needs
 
 returns-4 : tie.Need-returns-4
-unfolding keyIdsP flag
-returns-4 c = rw (div-one, sym (c .before .before .before .option-at .ensures) ∙ ap opted (c .before .fault3 .given .1))
+unfolding keyIdsP
+returns-4 c =
+    let a = c .before .before .before in
+    rw (by-flag _ _ _ (a .before .has-flag .ensures) (a .option-at .ensures) ∙ ap opted (c .before .fault3 .given .1))
 
 pub key-ids-at-spec : {M : Type 1} → statement M
 key-ids-at-spec =
     tie.close
     (tie.spec
+    has-flag-requires
     option-at-requires
     enum-known-authority
+    has-flag-requires-2
     option-at-requires-2
     enum-known-authority-serial
+    has-flag-requires-3
     option-at-requires-3
     enum-known-subject
     returns

@@ -13,6 +13,15 @@ key-ids-requires c κs = search needs
 strings-requires : tie.Need-strings-requires
 strings-requires c κs = search needs
 
+has-flag-requires : tie.Need-has-flag-requires
+has-flag-requires c κs = search needs
+
+has-flag-requires-2 : tie.Need-has-flag-requires-2
+has-flag-requires-2 c κs = search needs
+
+has-flag-requires-3 : tie.Need-has-flag-requires-3
+has-flag-requires-3 c κs = search needs
+
 part-requires : tie.Need-part-requires
 part-requires c κs = search needs
 
@@ -32,14 +41,17 @@ returns : tie.Need-returns
 returns c =
     let d = c .before in
     let k = d .before in
-    let b = k .before in
-    let a = b .before in
-    let t = a .before in
+    let z = k .before in
+    let b = z .before in
+    let y = b .before in
+    let a = y .before in
+    let x = a .before in
+    let t = x .before in
     let o = t .before in
     let n = o .before in
     λ subject h.
-    keys-fit _ _ _ _ _ _ _ _ _ _ _ _ h (n .flags .ensures) (o .key-ids .ensures) (t .strings .ensures) (c .check-auth-key-id .ensures)
-    (a .part .ensures) (b .part2 .ensures) (k .part3 .ensures) (d .part4 .ensures)
+    keys-fit _ _ _ _ _ _ _ _ _ _ _ _ _ _ _ h (n .flags .ensures) (o .key-ids .ensures) (t .strings .ensures) (c .check-auth-key-id .ensures)
+    (x .has-flag .ensures) (y .has-flag2 .ensures) (z .has-flag3 .ensures) (a .part .ensures) (b .part2 .ensures) (k .part3 .ensures) (d .part4 .ensures)
 
 pub keys-fit-spec : {M : Type 1} → statement M
 keys-fit-spec =
@@ -48,8 +60,11 @@ keys-fit-spec =
     flags-requires
     key-ids-requires
     strings-requires
+    has-flag-requires
     part-requires
+    has-flag-requires-2
     part-requires-2
+    has-flag-requires-3
     part-requires-3
     part-requires-4
     check-auth-key-id-requires

@@ -4,7 +4,7 @@ use mathlib.Core.Path.{refl, sym, ap, _∙_}
 use Rattle.fields.specs.Answers.{passing, spanned}
 use Rattle.fields.proofs.Strings.{string-got, string-stops}
 use Rattle.lists.specs.Lists.{dnsNameP}
-use Rattle.lists.proofs.Rows.{Left, row-next, row-stops, row-ends}
+use Rattle.lists.proofs.Runs.{Left, run-next, run-stops, run-ends}
 use Rattle.lists.proofs.dns_names.dns_names_past.Statement.{statement}
 use Rattle.lists.proofs.dns_names.dns_names_past.Tie as tie
 
@@ -34,7 +34,7 @@ unfolding dnsNameP
 loop-again c =
     let a = c .before .before .before in
     let q = string-got _ _ _ _ _ _ (sym (a .dns-name-at .ensures) ∙ ap spanned (c .before .name .given .1)) in
-    row-next _ _ _ _ _ _ _ (a .before .before .loop .inv) (a .before .loop-test .taken) (ap passing q)
+    run-next _ _ _ _ _ _ _ (a .before .before .loop .inv) (a .before .loop-test .taken) (ap passing q)
 
 enum-known-fault : tie.Need-enum-known-fault Inv-loop μ-loop
 enum-known-fault c = search needs
@@ -44,10 +44,10 @@ unfolding dnsNameP
 returns c =
     let a = c .before .before .before in
     let q = string-stops _ _ _ _ _ (sym (a .dns-name-at .ensures) ∙ ap spanned (c .before .fault .given .1)) in
-    row-stops _ _ _ _ _ _ _ (a .before .before .loop .inv) (a .before .loop-test .taken) (ap passing q)
+    run-stops _ _ _ _ _ _ _ (a .before .before .loop .inv) (a .before .loop-test .taken) (ap passing q)
 
 returns-2 : tie.Need-returns-2 Inv-loop μ-loop
-returns-2 c = row-ends _ _ _ _ _ _ (c .before .loop .inv) (c .loop-test .left)
+returns-2 c = run-ends _ _ _ _ _ _ (c .before .loop .inv) (c .loop-test .left)
 
 pub dns-names-past-spec : {M : Type 1} → statement M
 dns-names-past-spec =

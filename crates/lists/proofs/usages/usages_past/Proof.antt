@@ -3,7 +3,7 @@ use borrow.Author.Needs.{needs}
 use mathlib.Core.Path.{refl, sym, ap, _∙_}
 use Rattle.fields.specs.Answers.{counted, passing}
 use Rattle.lists.specs.Lists.{usageP}
-use Rattle.lists.proofs.Rows.{Left, row-next, row-stops, row-ends}
+use Rattle.lists.proofs.Runs.{Left, run-next, run-stops, run-ends}
 use Rattle.lists.proofs.usages.usages_past.Statement.{statement}
 use Rattle.lists.proofs.usages.usages_past.Tie as tie
 
@@ -32,7 +32,7 @@ loop-again : tie.Need-loop-again Inv-loop μ-loop
 loop-again c =
     let a = c .before .before .before in
     let q = ap passing (sym (a .usage-at .ensures) ∙ ap counted (c .before .next .given .1)) in
-    row-next _ _ _ _ _ _ _ (a .before .before .loop .inv) (a .before .loop-test .taken) q
+    run-next _ _ _ _ _ _ _ (a .before .before .loop .inv) (a .before .loop-test .taken) q
 
 enum-known-fault : tie.Need-enum-known-fault Inv-loop μ-loop
 enum-known-fault c = search needs
@@ -41,10 +41,10 @@ returns : tie.Need-returns Inv-loop μ-loop
 returns c =
     let a = c .before .before .before in
     let q = ap passing (sym (a .usage-at .ensures) ∙ ap counted (c .before .fault .given .1)) in
-    row-stops _ _ _ _ _ _ _ (a .before .before .loop .inv) (a .before .loop-test .taken) q
+    run-stops _ _ _ _ _ _ _ (a .before .before .loop .inv) (a .before .loop-test .taken) q
 
 returns-2 : tie.Need-returns-2 Inv-loop μ-loop
-returns-2 c = row-ends _ _ _ _ _ _ (c .before .loop .inv) (c .loop-test .left)
+returns-2 c = run-ends _ _ _ _ _ _ (c .before .loop .inv) (c .loop-test .left)
 
 pub usages-past-spec : {M : Type 1} → statement M
 usages-past-spec =

@@ -1,7 +1,6 @@
 -- `flags_at` answers version and flags, or the first fault: two bytes one after the other, and then the pairs in their order.
 -- Assumes nothing.
 use mathlib.Core.Path.{sym, ap, _∙_}
-use borrow.Author.Tests.{lt-ltb, le-ltb}
 use Rattle.fields.specs.Answers.{counted}
 use Rattle.record.specs.Certificate.{flagsP}
 use Rattle.record.specs.Record.{openingP}
@@ -22,42 +21,53 @@ byte-at-requires-2 c κs = search needs
 enum-known-flags : tie.Need-enum-known-flags
 enum-known-flags c = search needs
 
+lacks-requires : tie.Need-lacks-requires
+lacks-requires c κs = search needs
+
 returns : tie.Need-returns
 unfolding openingP flagsP
 returns c =
-    let t = c .before .before .before .before in
+    let l = c .before in
+    let t = l .before .before .before .before in
     let v = t .before .before in
     rw (
       sym (v .before .before .byte-at .ensures) ∙ ap counted (v .version .given .1),
-      sym (t .byte-at2 .ensures) ∙ ap counted (c .before .before .flags .given .1),
+      sym (t .byte-at2 .ensures) ∙ ap counted (l .before .before .flags .given .1),
       paired-test,
-      lt-ltb _ _ (c .if1 .taken),
+      sym (l .lacks .ensures) ∙ c .if1 .taken,
     )
+
+lacks-requires-2 : tie.Need-lacks-requires-2
+lacks-requires-2 c κs = search needs
 
 returns-2 : tie.Need-returns-2
 unfolding openingP flagsP
 returns-2 c =
-    let t = c .before .before .before .before .before in
+    let m = c .before in
+    let l = m .before .before in
+    let t = l .before .before .before .before in
     let v = t .before .before in
     rw (
       sym (v .before .before .byte-at .ensures) ∙ ap counted (v .version .given .1),
-      sym (t .byte-at2 .ensures) ∙ ap counted (c .before .before .before .flags .given .1),
+      sym (t .byte-at2 .ensures) ∙ ap counted (l .before .before .flags .given .1),
       paired-test,
-      le-ltb _ _ (c .before .if1 .left),
-      lt-ltb _ _ (c .if2 .taken),
+      sym (l .lacks .ensures) ∙ m .before .if1 .left,
+      sym (m .lacks2 .ensures) ∙ c .if2 .taken,
     )
 
 returns-3 : tie.Need-returns-3
 unfolding openingP flagsP
 returns-3 c =
-    let t = c .before .before .before .before .before in
+    let m = c .before in
+    let l = m .before .before in
+    let t = l .before .before .before .before in
     let v = t .before .before in
     rw (
       sym (v .before .before .byte-at .ensures) ∙ ap counted (v .version .given .1),
-      sym (t .byte-at2 .ensures) ∙ ap counted (c .before .before .before .flags .given .1),
+      sym (t .byte-at2 .ensures) ∙ ap counted (l .before .before .flags .given .1),
       paired-test,
-      le-ltb _ _ (c .before .if1 .left),
-      le-ltb _ _ (c .if2 .left),
+      sym (l .lacks .ensures) ∙ m .before .if1 .left,
+      sym (m .lacks2 .ensures) ∙ c .if2 .left,
     )
 
 enum-known-fault : tie.Need-enum-known-fault
@@ -88,7 +98,9 @@ flags-at-spec =
     enum-known-version
     byte-at-requires-2
     enum-known-flags
+    lacks-requires
     returns
+    lacks-requires-2
     returns-2
     returns-3
     enum-known-fault

@@ -6,13 +6,13 @@ use borrow.Author.Needs.{needs}
 use Rattle.fields.specs.Answers.{spanned}
 use Rattle.fields.proofs.Strings.{string-got, string-stops}
 use Rattle.lists.specs.Lists.{dnsNameP}
-use Rattle.rules.specs.Rules.{names}
+use Rattle.rules.specs.Rules.{namesHost}
 use Rattle.rules.proofs.AnyOf.{Left, any-next, any-found, any-stops, any-ends}
 use Rattle.rules.proofs.leaf.any_names.Statement.{statement}
 use Rattle.rules.proofs.leaf.any_names.Tie as tie
 
 abbrev Inv-loop : tie.InvT-loop
-Inv-loop file host first n at₀ left₀ at left = Left (names host) dnsNameP file first n at left
+Inv-loop file host first n at₀ left₀ at left = Left (namesHost host) dnsNameP file first n at left
 
 abbrev μ-loop : tie.MeasureT-loop
 μ-loop file host first n at₀ left₀ at left = left
@@ -33,7 +33,7 @@ match-lowered-requires : tie.Need-match-lowered-requires Inv-loop μ-loop
 match-lowered-requires c κs = search needs
 
 returns : tie.Need-returns Inv-loop μ-loop
-unfolding dnsNameP names
+unfolding dnsNameP namesHost
 returns c =
     let m = c .before in
     let n = m .before .before .before in
@@ -49,7 +49,7 @@ loop-less : tie.Need-loop-less Inv-loop μ-loop
 loop-less c = search needs
 
 loop-again : tie.Need-loop-again Inv-loop μ-loop
-unfolding dnsNameP names
+unfolding dnsNameP namesHost
 loop-again c =
     let m = c .before in
     let n = m .before .before .before in

@@ -1,22 +1,36 @@
--- `authority` answers whether flag 8 is set, and 64 where 32 is. Assumes nothing.
-use borrow.Author.Tests.{eq-eqb, ne-eqb}
-use Rattle.extensions.specs.Flags.{flag}
+-- `authority` answers whether this is a CA, and may sign where key usage is present. Assumes nothing.
+use mathlib.Core.Path.{sym, _∙_}
+use borrow.Author.Needs.{needs}
 use Rattle.record.specs.Parts.{certificateBy}
 use Rattle.rules.specs.Rules.{authority}
 use Rattle.rules.proofs.rules.authority.Statement.{statement}
 use Rattle.rules.proofs.rules.authority.Tie as tie
 
+has-flag-requires : tie.Need-has-flag-requires
+has-flag-requires c κs = search needs
+
+has-flag-requires-2 : tie.Need-has-flag-requires-2
+has-flag-requires-2 c κs = search needs
+
+has-flag-requires-3 : tie.Need-has-flag-requires-3
+has-flag-requires-3 c κs = search needs
+
 returns : tie.Need-returns
-unfolding authority certificateBy flag
-returns c = λ cert s. rw (ne-eqb _ _ (c .if1 .taken))
+unfolding authority certificateBy
+returns c =
+    let u = c .before in
+    let h = u .before .before in
+    λ cert s. rw (sym (h .before .has-flag .ensures) ∙ h .if1 .taken, sym (u .before .has-flag2 .ensures) ∙ u .if2 .taken) (c .has-flag3 .ensures)
 
 returns-2 : tie.Need-returns-2
-unfolding authority certificateBy flag
-returns-2 c = λ cert s. rw (eq-eqb _ _ (c .before .if1 .left), ne-eqb _ _ (c .if2 .taken))
+unfolding authority certificateBy
+returns-2 c =
+    let h = c .before .before in
+    λ cert s. rw (sym (h .before .has-flag .ensures) ∙ h .if1 .taken, sym (c .before .has-flag2 .ensures) ∙ c .if2 .left)
 
 returns-3 : tie.Need-returns-3
-unfolding authority certificateBy flag
-returns-3 c = λ cert s. rw (eq-eqb _ _ (c .before .if1 .left), eq-eqb _ _ (c .if2 .left))
+unfolding authority certificateBy
+returns-3 c = λ cert s. rw (sym (c .before .has-flag .ensures) ∙ c .if1 .left)
 
 pub authority-spec : {M : Type 1} → statement M
-authority-spec = tie.close (tie.spec returns returns-2 returns-3)
+authority-spec = tie.close (tie.spec has-flag-requires has-flag-requires-2 has-flag-requires-3 returns returns-2 returns-3)
