@@ -1,4 +1,5 @@
 pub mod Chain
+pub mod Forward
 pub mod Frauds
 pub mod Nothing
 pub mod Pinned

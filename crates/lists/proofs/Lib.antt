@@ -1,3 +1,4 @@
+pub mod Forward
 pub mod Items
 pub mod Meaning
 pub mod Pinned

@@ -1,2 +1,3 @@
+pub mod Forward
 pub mod Hosts
 pub mod Pinned
