@@ -1,6 +1,6 @@
--- Readers that go from left to right: what one finds at a place hangs on the bytes up to where it stops alone, and with fewer of them the
--- file is cut short. A value (`told`), a judged value (`judged`), and one reader after another (`then`); the readers of `specs/` by
--- these are in `ForwardFields`. Assumes nothing.
+-- Readers that go from left to right: the bytes up to where a reader stops decide what it finds, and with fewer of them the file is cut
+-- short. A value (`told`), a judged value (`judged`), a thing that is read where a test holds (`judging`), and one reader after another
+-- (`then`). The readers of `specs/Fields` are in `ForwardFields`. Assumes nothing.
 use Prim.Native.Nat.{ℕ, _<_, _≤_}
 use mathlib.Core.Path.{_≡_, refl, sym, ap, _∙_}
 use mathlib.Core.Bool.{Bool, true, false, cond}
@@ -19,19 +19,20 @@ pub data Shown : ℕ → Type 0 where
   value : Shown 8
 
 module _ {A : Type 0} (p : List ℕ → ℕ → Parsed A) (s : List ℕ) (at : ℕ) where
-  -- what p finds is x by the first e bytes alone, and with fewer of them the file is cut short
+  -- the first e bytes decide that p finds x, and with fewer of them the file is cut short
   pub record Settled (x : Parsed A) (e : ℕ) : Type 0 where
     pub begins : at ≤ e
     pub within : e ≤ length s
     pub same : (t : List ℕ) → take e t ≡ take e s → p t at ≡ x
     pub less : (i : ℕ) → at ≤ i → i < e → p (take i s) at ≡ stop 6
 
-  -- a value that ends where it is settled, a fault that a byte shows, or a file that is cut short, and so is each beginning of it
+  -- p finds a value that ends where it is settled, or a fault that a byte shows, or that the file is cut short, as its beginnings are
   pub data Forwards : Parsed A → Type 0 where
     found : (a : A) (e : ℕ) → Settled (got a e) e → Forwards (got a e)
     fault : (r e : ℕ) → Shown r → Settled (stop r) e → Forwards (stop r)
     short : ((i : ℕ) → at ≤ i → i ≤ length s → p (take i s) at ≡ stop 6) → Forwards (stop 6)
 
+-- p goes from left to right, from every place of every file
 pub record Forward {A : Type 0} (p : List ℕ → ℕ → Parsed A) : Type 0 where
   pub from : (s : List ℕ) (at : ℕ) → at ≤ length s → Forwards p s at (p s at)
 
@@ -59,16 +60,19 @@ module _ {A B : Type 0} (p : List ℕ → ℕ → Parsed A) (q : A → List ℕ 
   abbrev both : List ℕ → ℕ → Parsed B
   both t k = after (p t k) (λ a e. q a t e)
 
+  onward : (t : List ℕ) {x : Parsed A} → p t at ≡ x → both t at ≡ after x (λ a e. q a t e)
+  onward t h = ap (λ x. after x (λ a e. q a t e)) h
+
   module _ (a : A) (m : ℕ) (z : Settled p s at (got a m) m) where
     goes-on : (t : List ℕ) → take m t ≡ take m s → both t at ≡ q a t m
-    goes-on t h = ap (λ x. after x (λ a e. q a t e)) (z .same t h)
+    goes-on t h = onward t (z .same t h)
 
     -- with fewer bytes the first is cut short, or it is read and the next one is
     cut : (i : ℕ) → at ≤ i → (m ≤ i → q a (take i s) m ≡ stop 6) → both (take i s) at ≡ stop 6
     cut i l rest = by-place (ltb i m) refl
       where
         by-place : (b : Bool) → ltb i m ≡ b → both (take i s) at ≡ stop 6
-        by-place true e = ap (λ x. after x (λ a e. q a (take i s) e)) (z .less i l (ltb-true i m e))
+        by-place true e = onward (take i s) (z .less i l (ltb-true i m e))
         by-place false e =
             let k : m ≤ i = ltb-false i m e in
             goes-on (take i s) (take-take m i s k) ∙ rest k
@@ -93,14 +97,14 @@ module _ {A B : Type 0} (p : List ℕ → ℕ → Parsed A) (q : A → List ℕ 
       record {
         begins = z .begins;
         within = z .within;
-        same = λ t h. ap (λ x. after x (λ a e. q a t e)) (z .same t h);
-        less = λ i l k. ap (λ x. after x (λ a e. q a (take i s) e)) (z .less i l k);
+        same = λ t h. onward t (z .same t h);
+        less = λ i l k. onward (take i s) (z .less i l k);
       }
 
   joined : ((a : A) → Forward (q a)) → {x : Parsed A} → Forwards p s at x → Forwards both s at (after x (λ a e. q a s e))
   joined g (found a m z) = next a m z (g a .from s m (z .within))
   joined g (fault r e f z) = fault r e f (ending e z)
-  joined g (short z) = short (λ i l k. ap (λ x. after x (λ a e. q a (take i s) e)) (z i l k))
+  joined g (short z) = short (λ i l k. onward (take i s) (z i l k))
 
 module _ {A B : Type 0} where
   pub then : {p : List ℕ → ℕ → Parsed A} {q : A → List ℕ → ℕ → Parsed B} → Forward p → ((a : A) → Forward (q a))
