@@ -1,5 +1,7 @@
 pub mod Chain
+pub mod Forward
 pub mod Frauds
+pub mod LeftToRight
 pub mod Nothing
 pub mod Pinned
 pub mod Sections

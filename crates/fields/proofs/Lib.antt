@@ -3,6 +3,8 @@ pub mod Big
 pub mod Counts
 pub mod Ends
 pub mod Filling
+pub mod Forward
+pub mod ForwardFields
 pub mod Frauds
 pub mod Held
 pub mod Many

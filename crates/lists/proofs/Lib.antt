@@ -1,3 +1,4 @@
+pub mod Forward
 pub mod Meaning
 pub mod Pinned
 pub mod Runs

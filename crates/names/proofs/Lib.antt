@@ -1,4 +1,5 @@
 pub mod Alike
 pub mod Attributes
+pub mod Forward
 pub mod Judged
 pub mod Pinned

@@ -1,3 +1,4 @@
+pub mod Forward
 pub mod Hosts
 pub mod Pinned
 pub mod Values

@@ -1,4 +1,5 @@
 pub mod Columns
+pub mod Forward
 pub mod Pass
 pub mod Pinned
 pub mod Product

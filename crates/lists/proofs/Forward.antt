@@ -1,0 +1,13 @@
+-- A usage and a DNS name are read from left to right. Assumes nothing.
+use lib.Dec.{leb}
+use Rattle.fields.proofs.Forward.{Forward, value, judged, then}
+use Rattle.fields.proofs.ForwardFields.{byte-forward, string-forward}
+use Rattle.lists.specs.Lists.{usageMost, dnsNameMost, usageP, dnsNameP}
+
+pub usage-forward : Forward usageP
+unfolding usageP
+usage-forward = then byte-forward (λ u. judged (leb u usageMost) u value)
+
+pub dns-name-forward : Forward dnsNameP
+unfolding dnsNameP
+dns-name-forward = string-forward 1 dnsNameMost
