@@ -1,5 +1,5 @@
 -- A room that is laid slot behind slot holds the paths as Room says (`laid-holding`), and only such a room does (`holding-laid`). A path
--- that waits fits in a slot (`stack-short`). Assumes nothing.
+-- that waits fits in a slot (`stack-in-slots`). Assumes nothing.
 use mathlib.Core.Bool.{Bool, true, false}
 use mathlib.Core.List.{List, [], _∷_, _++_, append-assoc, List·Memᴰ·head as here, List·Memᴰ·tail as there}
 use mathlib.Core.Path.{_≡_, refl, sym, ap, ap₂, _∙_}
@@ -22,20 +22,20 @@ use Rattle.reply.specs.Slots.{slotBytes, slotOf}
 use Rattle.reply.proofs.Slots.{length-slot, length-flat}
 
 -- each path fits in a slot
-abbrev pub Short : List (List ℕ) → Type 0
-Short ws = (p : List ℕ) → p among ws → length p ≤ bundleMost
+abbrev pub InSlots : List (List ℕ) → Type 0
+InSlots ws = (p : List ℕ) → p among ws → length p ≤ bundleMost
 
-pub stack-short : (g : Places) → 0 < g .size → g .size ≤ bundleMost → (k : ℕ) → Short (stack g k)
-stack-short g some few k p m = omega (arith, simple-length g (stack-simple g some k p m))
+pub stack-in-slots : (g : Places) → 0 < g .size → g .size ≤ bundleMost → (k : ℕ) → InSlots (stack g k)
+stack-in-slots g some few k p m = omega (arith, simple-length g (stack-simple g some k p m))
 
 -- ---- what is laid is held
 
 -- slot i of paths that are laid, whatever lies behind them
-slot-laid : (ws : List (List ℕ)) (t : List ℕ) → Short ws → (i : ℕ) → i < length ws → slotAt i (flat ws ++ t) ≡ slotOf (getD ws (length ws - 1 - i) [])
+slot-laid : (ws : List (List ℕ)) (t : List ℕ) → InSlots ws → (i : ℕ) → i < length ws → slotAt i (flat ws ++ t) ≡ slotOf (getD ws (length ws - 1 - i) [])
 unfolding flat
-slot-laid [] t short i h = absurd (omega arith)
-slot-laid (p ∷ ws) t short i h =
-    ap (slotAt i) (append-assoc (flat ws) (slotOf p) t) ∙ by-place (ltb i (length ws)) refl (slot-laid ws (slotOf p ++ t) (λ q m. short q (there m)) i)
+slot-laid [] t fit i h = absurd (omega arith)
+slot-laid (p ∷ ws) t fit i h =
+    ap (slotAt i) (append-assoc (flat ws) (slotOf p) t) ∙ by-place (ltb i (length ws)) refl (slot-laid ws (slotOf p ++ t) (λ q m. fit q (there m)) i)
   where
     by-place : (b : Bool) → ltb i (length ws) ≡ b → (i < length ws → slotAt i (flat ws ++ (slotOf p ++ t)) ≡ slotOf (getD ws (length ws - 1 - i) []))
         → slotAt i (flat ws ++ (slotOf p ++ t)) ≡ slotOf (getD (p ∷ ws) (length (p ∷ ws) - 1 - i) [])
@@ -45,10 +45,10 @@ slot-laid (p ∷ ws) t short i h =
         below k ∙ ap (λ (j : ℕ). slotOf (getD (p ∷ ws) j [])) up
     by-place false e below =
         let k : length ws ≤ i = ltb-false i (length ws) e in
-        let n : length (flat ws) ≡ slotBytes * i = length-flat ws (λ q m. short q (there m)) ∙ omega arith in
+        let n : length (flat ws) ≡ slotBytes * i = length-flat ws (λ q m. fit q (there m)) ∙ omega arith in
         let top : 0 ≡ length (p ∷ ws) - 1 - i = omega arith in
         ap (take slotBytes) (drop-at (flat ws) (slotOf p ++ t) (slotBytes * i) n)
-        ∙ take-at (slotOf p) t slotBytes (length-slot p (short p (here refl)))
+        ∙ take-at (slotOf p) t slotBytes (length-slot p (fit p (here refl)))
         ∙ ap (λ (j : ℕ). slotOf (getD (p ∷ ws) j [])) top
 
 -- width zeros among n
@@ -107,14 +107,14 @@ module _ (n : ℕ) (ws : List (List ℕ)) where
   top = slotBytes * length ws
 
   module _ {before after : List ℕ} (fits : length ws ≤ slotsOf n) where
-    pub laid-holding : Short ws → after ≡ holding n ws before → Holding n ws before after
-    laid-holding short e =
-        let k : length (flat ws) ≡ top = length-flat ws short in
+    pub laid-holding : InSlots ws → after ≡ holding n ws before → Holding n ws before after
+    laid-holding fit e =
+        let k : length (flat ws) ≡ top = length-flat ws fit in
         let z : List ℕ = replicate (needed - top) 0 in
         let r : List ℕ = drop needed before in
         let long : length (flat ws ++ z) ≡ needed = simp (length-append, length-replicate) (omega arith) in
         record {
-          paths = λ i h. ap (slotAt i) e ∙ slot-laid ws (z ++ r) short i h;
+          paths = λ i h. ap (slotAt i) e ∙ slot-laid ws (z ++ r) fit i h;
           zeros = λ i low h.
               let up : top + (slotBytes * i - top) ≡ slotBytes * i = omega arith in
               ap (slotAt i) e

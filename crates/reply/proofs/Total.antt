@@ -17,7 +17,7 @@ use Rattle.reply.specs.Laid.{holding}
 use Rattle.reply.specs.Settles.{Reach, Outcome, steps}
 use Rattle.reply.proofs.Exists.{found, settles}
 use Rattle.reply.proofs.Faults.{runs-clear}
-use Rattle.reply.proofs.Laid.{stack-short, laid-holding}
+use Rattle.reply.proofs.Laid.{stack-in-slots, laid-holding}
 
 -- some answer and some room satisfy P
 pub record Some (P : List ℕ → Answer → Type 0) : Type 0 where
@@ -65,7 +65,7 @@ module _ (g : Places) (w : Reach) (k : ℕ) (before : List ℕ) (some : 0 < g .s
             record {
               outcome = o;
               tells = found-tells;
-              holds = record { waiting = ws; order = x; fits = fits; room = laid-holding (g .size) ws fits (stack-short g some few (steps o)) refl };
+              holds = record { waiting = ws; order = x; fits = fits; room = laid-holding (g .size) ws fits (stack-in-slots g some few (steps o)) refl };
             };
       }
 

@@ -61,7 +61,7 @@ module _ {g : Places} {w : Reach} {k : ℕ} {a b : Answer} where
       let e : o ≡ u = settles-unique g w k o u (x .settled) (y .settled) in
       (e, answer-one a b (x .says ∙ ap saying e ∙ sym (y .says)) (x .shows ∙ ap (λ v. pathShown (shown v)) e ∙ sym (y .shows)))
 
-  pub paused-unique : {before after later : List ℕ} → Paused g w k before after a → Paused g w k before later b → Same a b after later
+  paused-unique : {before after later : List ℕ} → Paused g w k before after a → Paused g w k before later b → Same a b after later
   paused-unique {before} x y =
       let (e, f) = told-unique (x .tells) (y .tells) in
       let p = x .holds in
@@ -72,7 +72,7 @@ module _ {g : Places} {w : Reach} {k : ℕ} {a b : Answer} where
         room = holding-laid (g .size) (p .waiting) (p .fits) (p .room) ∙ ap (λ ws. holding (g .size) ws before) v ∙ sym (holding-laid (g .size) (q .waiting) (q .fits) (q .room));
       }
 
-  pub searched-unique : {before after later : List ℕ} → Searched g w k before after a → Searched g w k before later b → Same a b after later
+  searched-unique : {before after later : List ℕ} → Searched g w k before after a → Searched g w k before later b → Same a b after later
   searched-unique x y =
       let (e, f) = told-unique (x .tells) (y .tells) in
       record { answer = f; room = holding-laid (g .size) [] zero-le (x .clear) ∙ sym (holding-laid (g .size) [] zero-le (y .clear)) }
@@ -82,7 +82,7 @@ module _ (before after later : List ℕ) (a b : Answer) where
   stops-unique x y =
       record { answer = answer-one a b (x .says ∙ sym (y .says)) (x .shows ∙ sym (y .shows)); room = x .kept ∙ sym (y .kept) }
 
-  pub answered-unique : {A : Type 0} (P Q : A → Type 0) → ((x : A) → P x → Q x → Same a b after later)
+  answered-unique : {A : Type 0} (P Q : A → Type 0) → ((x : A) → P x → Q x → Same a b after later)
       → (c : Case A) → Answered P c before after a → Answered Q c before later b → Same a b after later
   answered-unique P Q same (unread r) x y = stops-unique x y
   answered-unique P Q same empty x y = stops-unique x y

@@ -1,5 +1,4 @@
--- Cases and replies in numbers, as the code and C have them. A reader need not believe this file: what is answered in each case, and what a
--- reply says, stands in Answer. Assumes nothing.
+-- Cases and replies in numbers, as the code and C have them; the search's promise does not use them. Assumes nothing.
 use Prim.Native.Nat.{ℕ}
 use Rattle.reply.specs.Answer.{Case, unread, empty, cramped, runs}
 use Rattle.reply.specs.declared.Reply.{Reply}

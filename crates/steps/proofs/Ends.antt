@@ -24,7 +24,7 @@ use Rattle.steps.specs.Parts.{waiting, Vain, Ends, Stopped}
 use Rattle.reply.specs.Laid.{holding}
 use Rattle.reply.specs.Settles.{Reach, QualifiesBy, Qualifies, Outcome, accepted, refused, exhausted, Settles, steps}
 use Rattle.steps.proofs.Levels.{Stands, closed, over-all, met}
-use Rattle.reply.proofs.Laid.{stack-short, laid-holding}
+use Rattle.reply.proofs.Laid.{stack-in-slots, laid-holding}
 use Rattle.reply.proofs.Settled.{Barren, accepts, refuses, exhausts}
 
 -- ---- from any stack
@@ -137,7 +137,7 @@ module _ {g : Places} (some : 0 < g .size) (few : g .size ≤ bundleMost) {w : R
           waiting = waiting (g .size) (e .ahead) (e .place) (e .depths);
           order = rw (S .left) (stack-after g some (steps (S .outcome)));
           fits = stopped-fits;
-          room = laid-holding (g .size) (waiting (g .size) (e .ahead) (e .place) (e .depths)) stopped-fits (rw (S .left) (stack-short g some few (steps (S .outcome)))) q;
+          room = laid-holding (g .size) (waiting (g .size) (e .ahead) (e .place) (e .depths)) stopped-fits (rw (S .left) (stack-in-slots g some few (steps (S .outcome)))) q;
         };
       }
 
