@@ -3,7 +3,7 @@ use mathlib.Core.List.{List, map}
 use mathlib.Core.Path.{_≡_}
 use Prim.Native.Nat.{ℕ}
 use Rattle.places.specs.declared.BundlePlace.{BundlePlace}
-use Rattle.reply.specs.Answer.{told}
+use Rattle.reply.specs.Numbers.{told}
 use Rattle.reply.specs.declared.Answer.{Answer}
 use Rattle.desk.specs.declared.plain.Plain.{Plain}
 

@@ -3,7 +3,7 @@ use places::BundlePlace;
 use reply::Answer;
 use reply::Reply;
 ghost use mathlib.Core.Path.{_≡_};
-ghost use Rattle.reply.specs.Answer.{told};
+ghost use Rattle.reply.specs.Numbers.{told};
 ghost use Rattle.desk.specs.Plain.{numbers, plain};
 
 // The reply's number, root and steps, and the path beside it: its length and its places, 0 past them.

@@ -23,7 +23,7 @@ use Rattle.question.specs.declared.Posed.{Posed}
 use Rattle.question.specs.declared.Question.{Question}
 use Rattle.question.specs.declared.When.{When}
 use Rattle.question.specs.Asked.{placesIn, rootsIn}
-use Rattle.question.specs.Question.{timeFor, questionOf, told, posed, placesOf, rootsOf}
+use Rattle.question.specs.Question.{timeFor, questionOf, posedAs, posed, placesOf, rootsOf}
 use Rattle.question.proofs.Posing.{fault-some}
 use Rattle.question.proofs.Meaning.{places-read, qualifies-content, qualifies-rows}
 
@@ -41,7 +41,7 @@ pub record Put-of (s : List ℕ) (w : When) (q : Question) : Type 0 where
   pub says : contentP s ≡ got content end
   pub asks : Asks content (timeFor w (content .now)) q
 
-module _ (s : List ℕ) (w : When) (x : Posed) (is : told x ≡ posed s w (fileP s)) where
+module _ (s : List ℕ) (w : When) (x : Posed) (is : posedAs x ≡ posed s w (fileP s)) where
   put-of : (c : Card) (end : ℕ) → fileP s ≡ got c end → Put-of s w (questionOf s w c)
   unfolding questionOf contentOf
   put-of c end k =

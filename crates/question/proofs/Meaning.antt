@@ -22,7 +22,7 @@ use Rattle.order.proofs.Simple.{simple-length}
 use Rattle.policy.specs.Qualifies.{qualifies}
 use Rattle.policy.specs.Sound.{judgedOf}
 use Rattle.policy.proofs.Qualified.{issuer-judged, root-judged, qualifies-there}
-use Rattle.reply.specs.Settles.{Roots, QualifiesBy}
+use Rattle.reply.specs.Settles.{Reach, QualifiesBy}
 use Rattle.rules.specs.declared.rules.Time.{Time}
 use Rattle.question.specs.Asked.{placesIn, rootsIn}
 use Rattle.question.specs.Question.{placesBy, rootsBy}
@@ -43,7 +43,7 @@ module _ (s : List ℕ) (c : Card) (e : ℕ) (t : CardRead s c e) (time : Time) 
       (fun-ext (λ i. fun-ext (λ j. issuer-judged s c e t time i j)))
 
   -- the roots as the judged places say them
-  abbrev pub rootsRead : Roots
+  abbrev pub rootsRead : Reach
   rootsRead = rootsBy (judgedOf s time c)
 
   qualifies-read : (p : List ℕ) (r : ℕ) → Simple (placesIn content) p → rootsRead .good p r ≡ qualifies content time p r

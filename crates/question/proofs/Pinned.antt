@@ -5,13 +5,13 @@ use Rattle.fields.proofs.Pinned.{pins}
 use Rattle.card.proofs.Pinned.{outcomeOf, outcome-again}
 use Rattle.question.specs.declared.Posed.{Posed}
 use Rattle.question.specs.declared.Question.{Question}
-use Rattle.question.specs.Question.{told}
+use Rattle.question.specs.Question.{posedAs}
 
-pub told-pins : (a b : Posed) → told a ≡ told b → a ≡ b
-told-pins = pins told back again
+pub posed-pins : (a b : Posed) → posedAs a ≡ posedAs b → a ≡ b
+posed-pins = pins posedAs back again
   where
     back : ℕ × Question → Posed
     back p = record { outcome = outcomeOf (p .0); question = p .1 }
 
-    again : (a : Posed) → back (told a) ≡ a
+    again : (a : Posed) → back (posedAs a) ≡ a
     again a = ap (λ o. record { outcome = o; question = a .question }) (outcome-again (a .outcome))

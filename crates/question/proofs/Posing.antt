@@ -15,7 +15,7 @@ use Rattle.card.specs.declared.Reading.{Reading}
 use Rattle.card.proofs.Stops.{answered-read}
 use Rattle.question.specs.declared.Question.{Question}
 use Rattle.question.specs.declared.When.{When}
-use Rattle.question.specs.Question.{questionOf, fresh-question, told, posed}
+use Rattle.question.specs.Question.{questionOf, fresh-question, posedAs, posed}
 
 -- a fault has a number
 pub fault-some : (f : Fault) → number f ≡ 0 → ⊥
@@ -27,13 +27,13 @@ fault-some BadValue h = omega arith
 fault-some LeftOver h = omega arith
 
 module _ (s : List ℕ) (w : When) (reading : Reading) (says : tells reading ≡ answer (fileP s)) {q : Question} where
-  pub posed-read : reading .outcome ≡ Read → q ≡ questionOf s w (reading .card) → told (record { question = q; outcome = Read }) ≡ posed s w (fileP s)
+  pub posed-read : reading .outcome ≡ Read → q ≡ questionOf s w (reading .card) → posedAs (record { question = q; outcome = Read }) ≡ posed s w (fileP s)
   posed-read o e = let r = answered-read s reading says o in rw (r .is, e)
 
-  pub posed-stopped : {f : Fault} → reading .outcome ≡ Stop f → q ≡ fresh-question → told (record { question = q; outcome = Stop f }) ≡ posed s w (fileP s)
+  pub posed-stopped : {f : Fault} → reading .outcome ≡ Stop f → q ≡ fresh-question → posedAs (record { question = q; outcome = Stop f }) ≡ posed s w (fileP s)
   posed-stopped {f} o e = by-file (fileP s) refl
     where
-      by-file : (y : Parsed Card) → fileP s ≡ y → told (record { question = q; outcome = Stop f }) ≡ posed s w (fileP s)
+      by-file : (y : Parsed Card) → fileP s ≡ y → posedAs (record { question = q; outcome = Stop f }) ≡ posed s w (fileP s)
       by-file (got c end) k =
           let n : numberOf (reading .outcome) ≡ 0 = ap (λ (p : ℕ × Card). p .0) (says ∙ ap answer k) in
           absurd (fault-some f (sym (ap numberOf o) ∙ n))

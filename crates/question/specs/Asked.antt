@@ -4,7 +4,7 @@ use Rattle.card.specs.Content.{Content, bundled}
 use Rattle.issuing.specs.Issued.{issued}
 use Rattle.order.specs.Paths.{Places}
 use Rattle.policy.specs.Qualifies.{qualifies}
-use Rattle.reply.specs.Settles.{Roots}
+use Rattle.reply.specs.Settles.{Reach}
 use Rattle.rules.specs.declared.rules.Time.{Time}
 
 -- the bundle's certificates by their places, and who issued whom
@@ -12,5 +12,5 @@ abbrev pub placesIn : Content → Places
 placesIn c = record { size = length (c .bundle); issued = λ i j. issued c (bundled i) j }
 
 -- the roots, and which of them a path reaches under the policy at a time
-abbrev pub rootsIn : Content → Time → Roots
+abbrev pub rootsIn : Content → Time → Reach
 rootsIn c time = record { count = length (c .roots); good = qualifies c time }

@@ -11,7 +11,7 @@ use Rattle.order.specs.Paths.{Places}
 use Rattle.policy.specs.Judging.{qualifiesBy}
 use Rattle.policy.specs.Sound.{judgedOf, fresh-judged}
 use Rattle.policy.specs.declared.judged.Judged.{Judged}
-use Rattle.reply.specs.Settles.{Roots}
+use Rattle.reply.specs.Settles.{Reach}
 use Rattle.rows.specs.Rows.{has}
 use Rattle.rules.specs.Rules.{at}
 use Rattle.rules.specs.declared.rules.Time.{Time}
@@ -42,8 +42,8 @@ fresh-question = record { size = 0; judged = fresh-judged; budget = 0 }
 -- ---- of a file
 
 -- the fault's number, 0 for a file that was read, and the question
-abbrev pub told : Posed → ℕ × Question
-told p = (numberOf (p .outcome), p .question)
+abbrev pub posedAs : Posed → ℕ × Question
+posedAs p = (numberOf (p .outcome), p .question)
 
 -- what must be told of a file where this was read
 abbrev pub posed : List ℕ → When → Parsed Card → ℕ × Question
@@ -57,11 +57,11 @@ abbrev pub placesBy : List ℕ → ℕ → Places
 placesBy rows n = record { size = n; issued = λ i j. has i (getD rows j 0) }
 
 -- as many roots as there may be; a path qualifies by one as its certificates were judged
-abbrev pub rootsBy : Judged → Roots
+abbrev pub rootsBy : Judged → Reach
 rootsBy j = record { count = rootsMost; good = qualifiesBy j }
 
 abbrev pub placesOf : Question → Places
 placesOf q = placesBy (q .judged .issuing .bundle) (q .size)
 
-abbrev pub rootsOf : Question → Roots
+abbrev pub rootsOf : Question → Reach
 rootsOf q = rootsBy (q .judged)

@@ -8,7 +8,7 @@ use policy::judge;
 use rules::Time;
 ghost use mathlib.Core.Path.{_≡_};
 ghost use Rattle.card.specs.Card.{fileP};
-ghost use Rattle.question.specs.Question.{timeFor, questionOf, fresh-question, told, posed};
+ghost use Rattle.question.specs.Question.{timeFor, questionOf, fresh-question, posedAs, posed};
 
 // What a card asks: how many certificates there are, what was compared and judged of them, and the budget.
 pub struct Question {
@@ -44,7 +44,7 @@ pub struct Posed {
 
 // The question of a file. Where reading fails, nothing is compared or judged.
 pub fn pose(file: &[u8], when: When) -> Posed
-    ensures { λ r. ⌜ told r ≡ posed (now (file .entry)) when (fileP (now (file .entry))) ⌝ }
+    ensures { λ r. ⌜ posedAs r ≡ posed (now (file .entry)) when (fileP (now (file .entry))) ⌝ }
 {
     let reading = read(file);
     let outcome = reading.outcome;

@@ -5,9 +5,9 @@ use Prim.Native.Nat.{ℕ}
 use Rattle.order.specs.Paths.{Places, Simple}
 use Rattle.reply.specs.declared.Answer.{Answer}
 use Rattle.reply.specs.Answer.{Tells, Paused, Searched}
-use Rattle.reply.specs.Settles.{Roots, QualifiesBy, Qualifies, Outcome, accepted, refused, exhausted, Settles}
+use Rattle.reply.specs.Settles.{Reach, QualifiesBy, Qualifies, Outcome, accepted, refused, exhausted, Settles}
 
-module _ {g : Places} {w v : Roots}
+module _ {g : Places} {w v : Reach}
     (to : (p : List ℕ) (r : ℕ) → Simple g p → QualifiesBy w p r → QualifiesBy v p r)
     (from : (p : List ℕ) (r : ℕ) → Simple g p → QualifiesBy v p r → QualifiesBy w p r)
   where

@@ -10,7 +10,7 @@ use Rattle.order.specs.Paths.{Places, last}
 use Rattle.order.specs.Waiting.{After}
 use Rattle.order.proofs.Waiting.{after-unique, stack-after}
 use Rattle.order.specs.Walk.{next, kids, walk, visit}
-use Rattle.reply.specs.Settles.{Roots, Outcome, accepted, refused, exhausted, Settles, steps}
+use Rattle.reply.specs.Settles.{Reach, Outcome, accepted, refused, exhausted, Settles, steps}
 use Rattle.reply.proofs.Exists.{read, found, settles}
 use Rattle.places.specs.Lowest.{seek}
 use Rattle.reply.proofs.Unique.{settles-unique}
@@ -18,18 +18,18 @@ use Rattle.reply.proofs.Unique.{settles-unique}
 abbrev three : Places
 three = record { size = 3; issued = λ i j. true }
 
-abbrev none : Roots
+abbrev none : Reach
 none = record { count = 0; good = λ p r. false }
 
 -- of two roots the second issued places 1 and 2
-abbrev two : Roots
+abbrev two : Reach
 two = record { count = 2; good = λ p r. eqb r 1 && ltb 0 (last 0 p) }
 
 -- the one root issued the leaf
-abbrev leaf : Roots
+abbrev leaf : Reach
 leaf = record { count = 1; good = λ p r. eqb (last 0 p) 0 }
 
-module _ (w : Roots) (k : ℕ) where
+module _ (w : Reach) (k : ℕ) where
   only : (o : Outcome) → Settles three w k o → o ≡ found three w k
   only o s = settles-unique three w k o (found three w k) s (settles three w k (omega arith))
 

@@ -15,17 +15,17 @@ use Rattle.order.specs.Walk.{paths}
 use Rattle.order.proofs.Tree.{paths-listing}
 use Rattle.places.specs.Lowest.{seek}
 use Rattle.places.proofs.Lowest.{seek-least}
-use Rattle.reply.specs.Settles.{Roots, Qualifies, Outcome, accepted, refused, exhausted, Settles}
+use Rattle.reply.specs.Settles.{Reach, Qualifies, Outcome, accepted, refused, exhausted, Settles}
 use Rattle.reply.proofs.Least.{least-lowest, least-none}
 use Rattle.reply.proofs.Settled.{Barren, barren-more, accepts, refuses, exhausts}
 
 -- the paths are what is left after k, with `fuel` steps left
-unfoldable pub read : Roots → List (List ℕ) → ℕ → ℕ → Outcome
+unfoldable pub read : Reach → List (List ℕ) → ℕ → ℕ → Outcome
 read w [] fuel k = refused k
 read w (p ∷ ps) zero k = exhausted k
 read w (p ∷ ps) (suc fuel) k = cond (ltb (seek (w .good p) 0 (w .count)) (w .count)) (accepted p (seek (w .good p) 0 (w .count)) (suc k)) (read w ps fuel (suc k))
 
-module _ (g : Places) (w : Roots) {ps : List (List ℕ)} (l : Listing g ps) where
+module _ (g : Places) (w : Reach) {ps : List (List ℕ)} (l : Listing g ps) where
   reads : (left : List (List ℕ)) (fuel k : ℕ) → drop k ps ≡ left → k ≤ length ps → Barren g w l k → Settles g w (k + fuel) (read w left fuel k)
   unfolding read
   reads [] fuel k e h b = refuses g w l (k + fuel) k (omega (arith, length-drop k ps, ap length e)) (omega arith) b
@@ -45,8 +45,8 @@ module _ (g : Places) (w : Roots) {ps : List (List ℕ)} (l : Listing g ps) wher
           rw n at (accepts g w l (k + suc fuel) k (seek (w .good p) 0 (w .count)) m (omega arith) b (rw n (h, f .passes (omega arith))) (rw n (least-lowest w f)))
       go false y m n ih = rw (add-suc, ← suc-add) (ih (rw n (least-none w (seek-least (w .good p) 0 (w .count)) (ltb-false _ _ y))))
 
-abbrev pub found : Places → Roots → ℕ → Outcome
+abbrev pub found : Places → Reach → ℕ → Outcome
 found g w k = read w (paths g) k 0
 
-pub settles : (g : Places) (w : Roots) (k : ℕ) → 0 < g .size → Settles g w k (found g w k)
+pub settles : (g : Places) (w : Reach) (k : ℕ) → 0 < g .size → Settles g w k (found g w k)
 settles g w k some = rw zero-add at (reads g w (paths-listing g some) (paths g) k 0 refl zero-le (λ q m. absurd (List·Memᴰ·not-nil m)))

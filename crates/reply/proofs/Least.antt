@@ -5,9 +5,9 @@ use mathlib.Core.Path.{sym, _∙_}
 use Prim.Native.Nat.{ℕ, _≤_, _<_}
 use native.Mathlib.Omega.{arith}
 use Rattle.places.proofs.Lowest.{Least}
-use Rattle.reply.specs.Settles.{Roots, QualifiesBy, Qualifies}
+use Rattle.reply.specs.Settles.{Reach, QualifiesBy, Qualifies}
 
-module _ (w : Roots) {p : List ℕ} {r : ℕ} (l : Least (w .good p) 0 (w .count) r) where
+module _ (w : Reach) {p : List ℕ} {r : ℕ} (l : Least (w .good p) 0 (w .count) r) where
   pub least-lowest : (i : ℕ) → QualifiesBy w p i → r ≤ i
   least-lowest i (h, e) = let k : ¬ (i < r) = λ k. false≢true (sym (l .below i (omega arith) k) ∙ e) in omega arith
 

@@ -2,6 +2,7 @@ pub mod Agree
 pub mod Examples
 pub mod Exists
 pub mod Faults
+pub mod Laid
 pub mod Least
 pub mod Room
 pub mod Settled

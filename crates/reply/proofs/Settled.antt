@@ -11,9 +11,9 @@ use Rattle.order.specs.Paths.{Places, Listing}
 use Rattle.order.proofs.Lists.{mem-at, lists-before}
 use Rattle.order.proofs.Order.{irrefl, trans}
 use Rattle.order.proofs.Rank.{rank-at, rank-is}
-use Rattle.reply.specs.Settles.{Roots, QualifiesBy, Qualifies, Accepted, Refused, Exhausted}
+use Rattle.reply.specs.Settles.{Reach, QualifiesBy, Qualifies, Accepted, Refused, Exhausted}
 
-module _ (g : Places) (w : Roots) {ps : List (List ℕ)} (l : Listing g ps) where
+module _ (g : Places) (w : Reach) {ps : List (List ℕ)} (l : Listing g ps) where
   -- none of the first k qualifies
   abbrev pub Barren : ℕ → Type 0
   Barren k = (q : List ℕ) → q among take k ps → ¬ Qualifies w q

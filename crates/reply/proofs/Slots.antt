@@ -8,7 +8,8 @@ use lib.ListN.{length, set, replicate, length-replicate, length-append}
 use lib.Seq.{set-append-seam, append-snoc}
 use Rattle.places.specs.Limits.{bundleMost}
 use Rattle.order.specs.Listing.{_among_}
-use Rattle.reply.specs.Slots.{slotBytes, padded, slotOf, flat}
+use Rattle.reply.specs.Laid.{flat}
+use Rattle.reply.specs.Slots.{slotBytes, padded, slotOf}
 
 -- ---- one path
 

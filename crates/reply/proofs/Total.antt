@@ -1,24 +1,23 @@
 -- Every question has an answer: some answer and some room satisfy what `search` and `paused` promise (`search-some`, `paused-some`), of
 -- whatever numbers. Assumes nothing.
-use mathlib.Core.Bool.{Bool, true, false}
-use mathlib.Core.List.{List, []}
+use mathlib.Core.List.{List, [], List·Memᴰ·not-nil}
 use mathlib.Core.Path.{_≡_, refl}
-use Prim.Native.Nat.{ℕ, _≤_, _<_}
-use native.Mathlib.Omega.{arith}
-use borrow.Author.Tests.{ltb-true, ltb-false}
-use lib.Dec.{ltb}
+use Prim.Native.Nat.{ℕ, _≤_, _<_, zero-le}
 use lib.ListN.{length}
 use Rattle.places.specs.Limits.{bundleMost}
 use Rattle.order.specs.Paths.{Places}
+use Rattle.order.specs.Slots.{slotsOf}
+use Rattle.order.specs.Walk.{stack}
 use Rattle.order.proofs.Bound.{after-fits}
-use Rattle.order.proofs.Waiting.{after-exists}
+use Rattle.order.proofs.Waiting.{stack-after}
 use Rattle.reply.specs.declared.Answer.{Answer}
 use Rattle.reply.specs.declared.Reply.the-variants as reply
-use Rattle.reply.specs.Answer.{saying, shown, pathShown, Tells, Paused, Searched, Stops, Answered, fault}
-use Rattle.reply.specs.Room.{hasRoom, holding}
-use Rattle.reply.specs.Settles.{Roots, Outcome, steps}
+use Rattle.reply.specs.Answer.{saying, shown, pathShown, Tells, Paused, Searched, Stops, Case, unread, empty, cramped, runs, caseOf, Answered}
+use Rattle.reply.specs.Laid.{holding}
+use Rattle.reply.specs.Settles.{Reach, Outcome, steps}
 use Rattle.reply.proofs.Exists.{found, settles}
-use Rattle.reply.proofs.Faults.{fault-empty, fault-room, fault-none, clear, answered-runs, answered-stops}
+use Rattle.reply.proofs.Faults.{runs-clear}
+use Rattle.reply.proofs.Laid.{stack-in-slots, laid-holding}
 
 -- some answer and some room satisfy P
 pub record Some (P : List ℕ → Answer → Type 0) : Type 0 where
@@ -26,12 +25,7 @@ pub record Some (P : List ℕ → Answer → Type 0) : Type 0 where
   pub answer : Answer
   pub is : P after answer
 
--- ---- where nothing stands in the way
-
-abbrev answerOf : Outcome → Answer
-answerOf o = record { reply = saying o; path = pathShown (shown o) }
-
--- ---- where something does
+-- ---- where something stands in the way
 
 abbrev without : ℕ → Answer
 without e = record { reply = reply.Error e; path = pathShown [] }
@@ -39,62 +33,59 @@ without e = record { reply = reply.Error e; path = pathShown [] }
 pub stops-some : (e : ℕ) (before : List ℕ) → Some (λ after a. Stops e before after a)
 stops-some e before = record { after = before; answer = without e; is = record { says = refl; shows = refl; kept = refl } }
 
-module _ (g : Places) (w : Roots) (k : ℕ) (before : List ℕ) where
-  found-tells : 0 < g .size → Tells g w k (answerOf (found g w k)) (found g w k)
-  found-tells some = record { settled = settles g w k some; says = refl; shows = refl }
+-- ---- where nothing does
 
-  searched-some : 0 < g .size → Some (λ after a. Searched g w k before after a)
-  searched-some some =
+abbrev answerOf : Outcome → Answer
+answerOf o = record { reply = saying o; path = pathShown (shown o) }
+
+module _ (g : Places) (w : Reach) (k : ℕ) (before : List ℕ) (some : 0 < g .size) (few : g .size ≤ bundleMost) where
+  abbrev o : Outcome
+  o = found g w k
+
+  found-tells : Tells g w k (answerOf o) o
+  found-tells = record { settled = settles g w k some; says = refl; shows = refl }
+
+  searched-some : Some (λ after a. Searched g w k before after a)
+  searched-some =
       record {
         after = holding (g .size) [] before;
-        answer = answerOf (found g w k);
-        is = record { outcome = found g w k; tells = found-tells some; clear = refl };
+        answer = answerOf o;
+        is = record { outcome = o; tells = found-tells; clear = laid-holding (g .size) [] zero-le (λ p m. absurd (List·Memᴰ·not-nil m)) refl };
       }
 
-  held-some : 0 < g .size → g .size ≤ bundleMost → Some (λ after a. Paused g w k before after a)
-  held-some some few =
-      let (ws, x) = after-exists g (steps (found g w k)) in
+  held-some : Some (λ after a. Paused g w k before after a)
+  held-some =
+      let ws : List (List ℕ) = stack g (steps o) in
+      let x = stack-after g some (steps o) in
+      let fits : length ws ≤ slotsOf (g .size) = after-fits g few x in
       record {
         after = holding (g .size) ws before;
-        answer = answerOf (found g w k);
+        answer = answerOf o;
         is =
             record {
-              outcome = found g w k;
-              tells = found-tells some;
-              holds = record { waiting = ws; order = x; fits = after-fits g few x; room = refl };
+              outcome = o;
+              tells = found-tells;
+              holds = record { waiting = ws; order = x; fits = fits; room = laid-holding (g .size) ws fits (stack-in-slots g some few (steps o)) refl };
             };
       }
 
-  -- P where nothing stands in the way, else what does
-  answered-some : (P : List ℕ → Answer → Type 0) → (0 < g .size → g .size ≤ bundleMost → Some P)
-      → Some (λ after a. Answered (P after a) (fault (g .size) (length before)) before after a)
-  answered-some P runs = by-size (ltb 0 n) refl (hasRoom n (length before)) refl
-    where
-      n : ℕ
-      n = g .size
+-- ---- in every case
 
-      goal : Type 0
-      goal = Some (λ after a. Answered (P after a) (fault n (length before)) before after a)
+some-in : {A : Type 0} (before : List ℕ) (P : List ℕ → Answer → A → Type 0) (c : Case A) → ((x : A) → c ≡ runs x → Some (λ after a. P after a x))
+    → Some (λ after a. Answered (P after a) c before after a)
+some-in before P (unread r) h = stops-some r before
+some-in before P empty h = stops-some 3 before
+some-in before P cramped h = stops-some 10 before
+some-in before P (runs x) h = h x refl
 
-      stopped : 0 < fault n (length before) → goal
-      stopped h = record { after = before; answer = without (fault n (length before)); is = answered-stops h refl refl refl }
+-- of a search over whatever has places, roots and a budget
+module _ {A : Type 0} (g : A → Places) (w : A → Reach) (k : A → ℕ) (x : A) (before : List ℕ) where
+  pub search-some : Some (λ after a. Answered (λ y. Searched (g y) (w y) (k y) before after a) (caseOf x (g x .size) (length before)) before after a)
+  search-some = some-in before (λ after a y. Searched (g y) (w y) (k y) before after a) (caseOf x (g x .size) (length before)) (λ y e.
+      let (q, c) = runs-clear (g x .size) (length before) x e in
+      rw (← q) (searched-some (g x) (w x) (k x) before (c .some) (c .few)))
 
-      by-size : (x : Bool) → ltb 0 n ≡ x → (y : Bool) → hasRoom n (length before) ≡ y → goal
-      by-size false e y f =
-          let z = fault-empty n (length before) (let h = ltb-false 0 n e in omega arith) in
-          stopped (omega arith)
-      by-size true e false f =
-          let h = ltb-true 0 n e in
-          let z = fault-room n (length before) (λ q. omega arith) f in
-          stopped (omega arith)
-      by-size true e true f =
-          let h = ltb-true 0 n e in
-          let z = fault-none n (length before) (λ q. omega arith) f in
-          let x = runs h (clear n (length before) z .few) in
-          record { after = x .after; answer = x .answer; is = answered-runs z (x .is) }
-
-  pub search-some : Some (λ after a. Answered (Searched g w k before after a) (fault (g .size) (length before)) before after a)
-  search-some = answered-some (λ after a. Searched g w k before after a) (λ some few. searched-some some)
-
-  pub paused-some : Some (λ after a. Answered (Paused g w k before after a) (fault (g .size) (length before)) before after a)
-  paused-some = answered-some (λ after a. Paused g w k before after a) held-some
+  pub paused-some : Some (λ after a. Answered (λ y. Paused (g y) (w y) (k y) before after a) (caseOf x (g x .size) (length before)) before after a)
+  paused-some = some-in before (λ after a y. Paused (g y) (w y) (k y) before after a) (caseOf x (g x .size) (length before)) (λ y e.
+      let (q, c) = runs-clear (g x .size) (length before) x e in
+      rw (← q) (held-some (g x) (w x) (k x) before (c .some) (c .few)))

@@ -1,12 +1,11 @@
 -- At most one outcome settles a search (`settles-unique`), a budget that covers all paths brings a yes or a no (`covers`), and what a
 -- paused run and a search must answer and leave is one answer and one room (`paused-one`, `search-one`). Assumes nothing.
-use mathlib.Core.List.{List}
+use mathlib.Core.List.{List, []}
 use mathlib.Core.Logic.{⊎-elim}
-use mathlib.Core.Path.{_≡_, refl, sym, ap, ap₂, _∙_}
-use Prim.Native.Nat.{ℕ, zero, suc, _≤_, zero-le, suc-le-suc}
+use mathlib.Core.Path.{_≡_, sym, ap, ap₂, _∙_}
+use Prim.Native.Nat.{ℕ, _≤_, zero-le}
 use native.Mathlib.Nat.{le-antisymm}
 use native.Mathlib.Omega.{arith}
-use lib.ListN.{length}
 use Rattle.order.specs.Paths.{Places, Count}
 use Rattle.order.proofs.Order.{same-or-before}
 use Rattle.order.proofs.Rank.{rank-unique, count-unique}
@@ -14,12 +13,13 @@ use Rattle.order.proofs.Waiting.{after-unique}
 use Rattle.reply.specs.declared.Reply.{Reply}
 use Rattle.reply.specs.declared.path.Path.{Path}
 use Rattle.reply.specs.declared.Answer.{Answer}
-use Rattle.reply.specs.Answer.{saying, shown, pathShown, Tells, Paused, Searched, Stops, Answered, fault}
-use Rattle.reply.specs.Room.{holding}
-use Rattle.reply.specs.Settles.{Roots, Accepted, Outcome, accepted, refused, exhausted, Settles}
+use Rattle.reply.specs.Answer.{saying, shown, pathShown, Tells, Paused, Searched, Stops, Case, unread, empty, cramped, runs, Answered}
+use Rattle.reply.specs.Laid.{holding}
+use Rattle.reply.specs.Settles.{Reach, Accepted, Outcome, accepted, refused, exhausted, Settles}
+use Rattle.reply.proofs.Laid.{holding-laid}
 
 module _ (g : Places) where
-  module _ (w : Roots) (k : ℕ) where
+  module _ (w : Reach) (k : ℕ) where
     accepted-unique : {p q : List ℕ} {r i s t : ℕ} → Accepted g w k p r s → Accepted g w k q i t → accepted p r s ≡ accepted q i t
     accepted-unique {p} {q} {r} {i} {s} {t} a b =
         let e : p ≡ q = ⊎-elim (λ e. e)
@@ -55,44 +55,52 @@ pub record Same (a b : Answer) (after later : List ℕ) : Type 0 where
 answer-one : (a b : Answer) → a .reply ≡ b .reply → a .path ≡ b .path → a ≡ b
 answer-one a b e f = ap₂ (λ (r : Reply) (p : Path). record { reply = r; path = p }) e f
 
-module _ {g : Places} {w : Roots} {k : ℕ} {a b : Answer} where
+module _ {g : Places} {w : Reach} {k : ℕ} {a b : Answer} where
   told-unique : {o u : Outcome} → Tells g w k a o → Tells g w k b u → (o ≡ u) × (a ≡ b)
   told-unique {o} {u} x y =
       let e : o ≡ u = settles-unique g w k o u (x .settled) (y .settled) in
       (e, answer-one a b (x .says ∙ ap saying e ∙ sym (y .says)) (x .shows ∙ ap (λ v. pathShown (shown v)) e ∙ sym (y .shows)))
 
-  pub paused-unique : {before after later : List ℕ} → Paused g w k before after a → Paused g w k before later b → Same a b after later
+  paused-unique : {before after later : List ℕ} → Paused g w k before after a → Paused g w k before later b → Same a b after later
   paused-unique {before} x y =
       let (e, f) = told-unique (x .tells) (y .tells) in
-      let v : x .holds .waiting ≡ y .holds .waiting = after-unique g (rw e at (x .holds .order)) (y .holds .order) in
-      record { answer = f; room = x .holds .room ∙ ap (λ ws. holding (g .size) ws before) v ∙ sym (y .holds .room) }
+      let p = x .holds in
+      let q = y .holds in
+      let v : p .waiting ≡ q .waiting = after-unique g (rw e at (p .order)) (q .order) in
+      record {
+        answer = f;
+        room = holding-laid (g .size) (p .waiting) (p .fits) (p .room) ∙ ap (λ ws. holding (g .size) ws before) v ∙ sym (holding-laid (g .size) (q .waiting) (q .fits) (q .room));
+      }
 
-  pub searched-unique : {before after later : List ℕ} → Searched g w k before after a → Searched g w k before later b → Same a b after later
+  searched-unique : {before after later : List ℕ} → Searched g w k before after a → Searched g w k before later b → Same a b after later
   searched-unique x y =
       let (e, f) = told-unique (x .tells) (y .tells) in
-      record { answer = f; room = x .clear ∙ sym (y .clear) }
+      record { answer = f; room = holding-laid (g .size) [] zero-le (x .clear) ∙ sym (holding-laid (g .size) [] zero-le (y .clear)) }
 
-module _ {before after later : List ℕ} {a b : Answer} where
-  pub stops-unique : {e : ℕ} → Stops e before after a → Stops e before later b → Same a b after later
+module _ (before after later : List ℕ) (a b : Answer) where
+  stops-unique : {e : ℕ} → Stops e before after a → Stops e before later b → Same a b after later
   stops-unique x y =
       record { answer = answer-one a b (x .says ∙ sym (y .says)) (x .shows ∙ sym (y .shows)); room = x .kept ∙ sym (y .kept) }
 
-  pub answered-unique : {P Q : Type 0} → (P → Q → Same a b after later)
-      → (e : ℕ) → Answered P e before after a → Answered Q e before later b → Same a b after later
-  answered-unique same zero x y = same (x .runs refl) (y .runs refl)
-  answered-unique same (suc e) x y = stops-unique (x .stops (suc-le-suc zero-le)) (y .stops (suc-le-suc zero-le))
+  answered-unique : {A : Type 0} (P Q : A → Type 0) → ((x : A) → P x → Q x → Same a b after later)
+      → (c : Case A) → Answered P c before after a → Answered Q c before later b → Same a b after later
+  answered-unique P Q same (unread r) x y = stops-unique x y
+  answered-unique P Q same empty x y = stops-unique x y
+  answered-unique P Q same cramped x y = stops-unique x y
+  answered-unique P Q same (runs z) x y = same z x y
 
 -- ---- a search and a paused run
 
-module _ (g : Places) (w : Roots) (budget : ℕ) (before : List ℕ) {after later : List ℕ} {a b : Answer} where
+-- in every case, of a search over whatever has places, roots and a budget
+module _ {A : Type 0} (g : A → Places) (w : A → Reach) (budget : A → ℕ) (c : Case A) (before after later : List ℕ) (a b : Answer) where
   -- what a paused run must answer and leave is one answer and one room
-  pub paused-one : Answered (Paused g w budget before after a) (fault (g .size) (length before)) before after a
-      → Answered (Paused g w budget before later b) (fault (g .size) (length before)) before later b
+  pub paused-one : Answered (λ x. Paused (g x) (w x) (budget x) before after a) c before after a
+      → Answered (λ x. Paused (g x) (w x) (budget x) before later b) c before later b
       → Same a b after later
-  paused-one x y = answered-unique paused-unique (fault (g .size) (length before)) x y
+  paused-one = answered-unique before after later a b (λ x. Paused (g x) (w x) (budget x) before after a) (λ x. Paused (g x) (w x) (budget x) before later b) (λ x. paused-unique) c
 
   -- and so for a search
-  pub search-one : Answered (Searched g w budget before after a) (fault (g .size) (length before)) before after a
-      → Answered (Searched g w budget before later b) (fault (g .size) (length before)) before later b
+  pub search-one : Answered (λ x. Searched (g x) (w x) (budget x) before after a) c before after a
+      → Answered (λ x. Searched (g x) (w x) (budget x) before later b) c before later b
       → Same a b after later
-  search-one x y = answered-unique searched-unique (fault (g .size) (length before)) x y
+  search-one = answered-unique before after later a b (λ x. Searched (g x) (w x) (budget x) before after a) (λ x. Searched (g x) (w x) (budget x) before later b) (λ x. searched-unique) c

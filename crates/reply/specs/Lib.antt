@@ -2,3 +2,5 @@ pub mod Settles
 pub mod Slots
 pub mod Room
 pub mod Answer
+pub mod Laid
+pub mod Numbers

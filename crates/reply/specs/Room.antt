@@ -1,15 +1,15 @@
 -- The lent room: how much is needed, and what it holds after the search. Assumes nothing.
 use mathlib.Core.Bool.{Bool, _&&_}
-use mathlib.Core.List.{List, _++_}
+use mathlib.Core.List.{List, []}
 use mathlib.Core.Path.{_≡_}
-use Prim.Native.Nat.{ℕ, _-_, _*_, _/_, _≤_}
+use Prim.Native.Nat.{ℕ, _-_, _*_, _/_, _≤_, _<_}
 use lib.Dec.{leb}
-use lib.ListN.{length, drop, replicate}
+use lib.ListN.{length, take, drop, getD, replicate}
 use Rattle.places.specs.Limits.{bundleMost}
 use Rattle.order.specs.Paths.{Places}
 use Rattle.order.specs.Slots.{slotsOf}
 use Rattle.order.specs.Waiting.{After}
-use Rattle.reply.specs.Slots.{slotBytes, flat}
+use Rattle.reply.specs.Slots.{slotBytes, slotOf}
 
 -- the bytes that a full bundle needs, which are always enough
 abbrev pub roomMost : ℕ
@@ -19,13 +19,20 @@ roomMost = slotBytes * slotsOf bundleMost
 unfoldable pub hasRoom : ℕ → ℕ → Bool
 hasRoom n bytes = leb n bundleMost && leb (slotsOf n) (bytes / slotBytes)
 
--- the needed slots of `before` hold the paths ws, the last one in slot 0, and then zeros; the rest is as it was
-abbrev pub holding : ℕ → List (List ℕ) → List ℕ → List ℕ
-holding n ws before = flat ws ++ (replicate (slotBytes * slotsOf n - slotBytes * length ws) 0 ++ drop (slotBytes * slotsOf n) before)
+-- slot i of a room
+abbrev pub slotAt : ℕ → List ℕ → List ℕ
+slotAt i room = take slotBytes (drop (slotBytes * i) room)
+
+-- of the slots that n certificates need the first hold the paths ws, slot i the i-th from the end, and the others zeros; the rest of the
+-- room is as it was
+pub record Holding (n : ℕ) (ws : List (List ℕ)) (before after : List ℕ) : Type 0 where
+  pub paths : (i : ℕ) → i < length ws → slotAt i after ≡ slotOf (getD ws (length ws - 1 - i) [])
+  pub zeros : (i : ℕ) → length ws ≤ i → i < slotsOf n → slotAt i after ≡ replicate slotBytes 0
+  pub rest : drop (slotBytes * slotsOf n) after ≡ drop (slotBytes * slotsOf n) before
 
 -- `after` holds what waits after s steps, the next one on top
 pub record Holds (g : Places) (s : ℕ) (before after : List ℕ) : Type 0 where
   pub waiting : List (List ℕ)
   pub order : After g s waiting
   pub fits : length waiting ≤ slotsOf (g .size)
-  pub room : after ≡ holding (g .size) waiting before
+  pub room : Holding (g .size) waiting before after

@@ -6,19 +6,19 @@ use mathlib.Core.Path.{_≡_}
 use Prim.Native.Nat.{ℕ, _≤_, _<_}
 use Rattle.order.specs.Paths.{Places, Simple, Before, Rank, Count}
 
--- roots 0 .. count - 1; `good p r`: the path p reaches root r under the policy
-pub record Roots : Type 0 where
+-- how many roots there are, and which of them a path reaches under the policy: `good p r` says that the path p reaches root r
+pub record Reach : Type 0 where
   pub count : ℕ
   pub good : List ℕ → ℕ → Bool
 
-abbrev pub QualifiesBy : Roots → List ℕ → ℕ → Type 0
+abbrev pub QualifiesBy : Reach → List ℕ → ℕ → Type 0
 QualifiesBy w p r = (r < w .count) × (w .good p r ≡ true)
 
-abbrev pub Qualifies : Roots → List ℕ → Type 0
+abbrev pub Qualifies : Reach → List ℕ → Type 0
 Qualifies w p = (r : ℕ) × QualifiesBy w p r
 
 -- p is the first path that qualifies, r its lowest root, and s its rank, which the budget k covers
-pub record Accepted (g : Places) (w : Roots) (k : ℕ) (p : List ℕ) (r s : ℕ) : Type 0 where
+pub record Accepted (g : Places) (w : Reach) (k : ℕ) (p : List ℕ) (r s : ℕ) : Type 0 where
   pub simple : Simple g p
   pub qualifies : QualifiesBy w p r
   pub lowest : (i : ℕ) → QualifiesBy w p i → r ≤ i
@@ -27,13 +27,13 @@ pub record Accepted (g : Places) (w : Roots) (k : ℕ) (p : List ℕ) (r s : ℕ
   pub covered : s ≤ k
 
 -- no path qualifies, and the budget k covers all s of them
-pub record Refused (g : Places) (w : Roots) (k s : ℕ) : Type 0 where
+pub record Refused (g : Places) (w : Reach) (k s : ℕ) : Type 0 where
   pub none : (q : List ℕ) → Simple g q → ¬ Qualifies w q
   pub all : Count g s
   pub covered : s ≤ k
 
 -- the budget k does not cover all paths, and none that it covers qualifies
-pub record Exhausted (g : Places) (w : Roots) (k s : ℕ) : Type 0 where
+pub record Exhausted (g : Places) (w : Reach) (k s : ℕ) : Type 0 where
   pub spent : s ≡ k
   pub more : (c : ℕ) × Count g c × (k < c)
   pub none : (q : List ℕ) (i : ℕ) → Simple g q → Rank g q i → i ≤ k → ¬ Qualifies w q
@@ -44,7 +44,7 @@ pub data Outcome : Type 0 where
   exhausted : ℕ → Outcome
 
 -- the outcome of a search with budget k
-abbrev pub Settles : Places → Roots → ℕ → Outcome → Type 0
+abbrev pub Settles : Places → Reach → ℕ → Outcome → Type 0
 Settles g w k (accepted p r s) = Accepted g w k p r s
 Settles g w k (refused s) = Refused g w k s
 Settles g w k (exhausted s) = Exhausted g w k s

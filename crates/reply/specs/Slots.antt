@@ -1,6 +1,6 @@
 -- Paths in slots: a length, then as many places as a path can have. Assumes nothing.
 use Prim.Native.Nat.{ℕ, _+_, _-_}
-use mathlib.Core.List.{List, [], _∷_, _++_}
+use mathlib.Core.List.{List, _∷_, _++_}
 use lib.ListN.{length, replicate}
 use Rattle.places.specs.Limits.{bundleMost}
 
@@ -14,8 +14,3 @@ padded p = p ++ replicate (bundleMost - length p) 0
 -- a path as the bytes of its slot: its length, its places, zeros
 unfoldable pub slotOf : List ℕ → List ℕ
 slotOf p = length p ∷ padded p
-
--- the slots of a list of paths, the last one first
-unfoldable pub flat : List (List ℕ) → List ℕ
-flat [] = []
-flat (p ∷ st) = flat st ++ slotOf p

@@ -8,7 +8,8 @@ use places::BundlePlace;
 use places::RootPlace;
 ghost use mathlib.Core.List.{[]};
 ghost use mathlib.Core.Path.{_≡_};
-ghost use Rattle.reply.specs.Answer.{pathShown, fault};
+ghost use Rattle.reply.specs.Answer.{pathShown, caseOf};
+ghost use Rattle.reply.specs.Numbers.{faultOf};
 ghost use Rattle.reply.specs.Room.{hasRoom};
 ghost use Rattle.reply.specs.declared.Reply.the-variants.{Error};
 
@@ -56,7 +57,7 @@ impl Slot {
 
 // The number of what stands in the way of a search over n certificates in a room of so many bytes; 0 where nothing does.
 pub fn fault(n: u8, bytes: usize) -> u8
-    ensures { λ r. ⌜ r ≡ fault n bytes ⌝ }
+    ensures { λ r. ⌜ r ≡ faultOf (caseOf n n bytes) ⌝ }
 {
     if n == 0 {
         return Reply::EMPTY_CHAIN;

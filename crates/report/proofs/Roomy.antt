@@ -2,8 +2,9 @@
 -- Assumes nothing.
 use mathlib.Core.Bool.{true}
 use mathlib.Core.List.{List, _++_}
+use mathlib.Core.Logic.{⊎-elim}
 use mathlib.Core.Path.{_≡_, refl, ap, sym, _∙_}
-use Prim.Native.Nat.{ℕ, zero, suc, _-_, _≤_}
+use Prim.Native.Nat.{ℕ, _-_, _≤_}
 use native.Mathlib.Omega.{arith}
 use borrow.Author.Tests.{le-leb}
 use lib.ListN.{length, replicate, length-append}
@@ -24,10 +25,10 @@ use Rattle.order.specs.Slots.{slotsOf}
 use Rattle.order.proofs.Formula.{slots-most}
 use Rattle.reply.specs.declared.Answer.{Answer}
 use Rattle.reply.specs.declared.Reply.the-variants.{Error}
-use Rattle.reply.specs.Answer.{saying, fault, Answered, Searched}
+use Rattle.reply.specs.Answer.{saying, Searched}
 use Rattle.reply.specs.Room.{roomMost, hasRoom}
-use Rattle.reply.specs.Settles.{Roots, Outcome, accepted, refused, exhausted}
-use Rattle.reply.proofs.Faults.{room-few, fault-empty, fault-none}
+use Rattle.reply.specs.Settles.{Reach, Outcome, accepted, refused, exhausted}
+use Rattle.reply.proofs.Faults.{room-few, answered-roomy}
 use Rattle.search.specs.Search.{Search}
 use Rattle.search.proofs.One.{search-one}
 use Rattle.report.specs.Lines.{lineMost, lineOf, lineShown}
@@ -35,14 +36,11 @@ use Rattle.report.specs.Replying.{Replies}
 use Rattle.report.specs.declared.line.Line.{Line}
 
 -- no bundle asks for more
-enough : (n : ℕ) → n ≤ bundleMost → fault n roomMost ≡ 10 → ⊥
-enough zero h e = omega (arith, fault-empty 0 roomMost refl)
-enough (suc n) h e =
-    let r : hasRoom (suc n) roomMost ≡ true = room-few (suc n) roomMost h ∙ le-leb (slotsOf (suc n)) (slotsOf bundleMost) (slots-most (suc n) h) in
-    omega (arith, fault-none (suc n) roomMost (λ z. omega arith) r)
+enough : (n : ℕ) → n ≤ bundleMost → hasRoom n roomMost ≡ true
+enough n h = room-few n roomMost h ∙ le-leb (slotsOf n) (slotsOf bundleMost) (slots-most n h)
 
 module _ (a : Answer) (ten : a .reply ≡ Error 10) where
-  searched-other : {g : Places} {w : Roots} {k : ℕ} {before after : List ℕ} → Searched g w k before after a → ⊥
+  searched-other : {g : Places} {w : Reach} {k : ℕ} {before after : List ℕ} → Searched g w k before after a → ⊥
   searched-other x = by-outcome (x .outcome) (x .tells .says)
     where
       by-outcome : (o : Outcome) → a .reply ≡ saying o → ⊥
@@ -53,17 +51,14 @@ module _ (a : Answer) (ten : a .reply ≡ Error 10) where
   other : {e : ℕ} → a .reply ≡ Error e → e ≡ 10
   other h = let z : Error _ ≡ Error 10 = sym h ∙ ten in cc
 
-  answered-other : {P : Type 0} {before after : List ℕ} (e : ℕ) → (e ≡ 10 → ⊥) → (P → ⊥) → Answered P e before after a → ⊥
-  answered-other zero n p x = p (x .runs refl)
-  answered-other (suc e) n p x = n (other (x .stops (omega arith) .says))
-
   pub never-ten : (s before after : List ℕ) → length before ≡ roomMost → Search (contentP s) before after a → ⊥
   never-ten s before after long x = by-file (fileP s) refl
     where
       by-file : (y : Parsed Card) → fileP s ≡ y → ⊥
       by-file (got c e) k =
           let few : length (contentOf c s .bundle) ≤ bundleMost = bundle-few s c e (card-read s c e k) in
-          answered-other _ (rw long (enough (length (contentOf c s .bundle)) few)) searched-other (rw (content-got s c e k) at x)
+          ⊎-elim (λ z. omega (arith, other (z .says))) searched-other
+          (answered-roomy (length (contentOf c s .bundle)) (length before) (contentOf c s) _ before after a (rw long (enough (length (contentOf c s .bundle)) few)) (rw (content-got s c e k) at x))
       by-file (stop r) k = let q = file-stops s .at r k in omega (arith, other ((rw (content-stops s r k) at x) .says))
 
 -- no second line replies to a file

@@ -11,7 +11,7 @@ use Rattle.order.specs.Paths.{Places}
 use Rattle.reply.specs.declared.Answer.{Answer}
 use Rattle.reply.specs.declared.Reply.the-variants as reply
 use Rattle.reply.specs.Answer.{Tells, Stops, saying, shown, placed, pathShown}
-use Rattle.reply.specs.Settles.{Roots, Outcome}
+use Rattle.reply.specs.Settles.{Reach, Outcome}
 use Rattle.reply.specs.Slots.{padded}
 use Rattle.report.specs.Lines.{lineOf, newline, numberOf, placesShown, spaced, words}
 use Rattle.report.specs.Text.{ascii, decimal, decimalIn}
@@ -28,7 +28,7 @@ path-places p =
     ∙ ap (map numberOf) (take-at (map placed p) (map placed z) (length p) (length-map p placed))
     ∙ opened p
 
-pub line-tells : {g : Places} {w : Roots} {k : ℕ} {a : Answer} {o : Outcome} → Tells g w k a o → lineOf a ≡ words (saying o) (shown o) ++ newline
+pub line-tells : {g : Places} {w : Reach} {k : ℕ} {a : Answer} {o : Outcome} → Tells g w k a o → lineOf a ≡ words (saying o) (shown o) ++ newline
 line-tells {o = o} t = rw (t .says, t .shows, path-places (shown o))
 
 pub line-stops : {e : ℕ} {before after : List ℕ} {a : Answer} → Stops e before after a → lineOf a ≡ words (reply.Error e) [] ++ newline

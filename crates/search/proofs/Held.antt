@@ -1,21 +1,21 @@
 -- What the paused run leaves is pinned for every k: the paths that wait after the steps it tells (`waiting-pinned`), never more than the
 -- table's slots (`waiting-few`). Assumes nothing.
 use mathlib.Core.List.{List}
-use mathlib.Core.Path.{_≡_, refl, ap, _∙_}
+use mathlib.Core.Path.{_≡_, refl}
 use Prim.Native.Nat.{ℕ, _≤_}
 use lib.ListN.{length}
-use Rattle.fields.specs.Fields.{got}
 use Rattle.card.specs.Content.{Content, contentP}
 use Rattle.order.specs.Slots.{slotsOf}
 use Rattle.order.specs.Waiting.{After}
 use Rattle.order.proofs.Waiting.{after-unique}
 use Rattle.reply.specs.declared.Answer.{Answer}
-use Rattle.reply.specs.Answer.{told, saying, Paused, fault}
-use Rattle.reply.specs.Room.{Holds, holding}
+use Rattle.reply.specs.Answer.{saying, Paused, runs}
+use Rattle.reply.specs.Numbers.{told}
+use Rattle.reply.specs.Room.{Holding, Holds}
 use Rattle.reply.specs.Settles.{Outcome, accepted, refused, exhausted, steps}
 use Rattle.question.specs.Asked.{placesIn, rootsIn}
 use Rattle.rules.specs.Rules.{at}
-use Rattle.search.specs.Search.{Pause}
+use Rattle.search.specs.Search.{caseIn, Pause}
 
 steps-told : (o : Outcome) → told (saying o) .steps ≡ steps o
 steps-told (accepted p r s) = refl
@@ -23,20 +23,20 @@ steps-told (refused s) = refl
 steps-told (exhausted s) = refl
 
 module _ (s before after : List ℕ) (k : ℕ) (a : Answer) (x : Pause (contentP s) k before after a)
-    (c : Content) (e : ℕ) (says : contentP s ≡ got c e) (free : fault (length (c .bundle)) (length before) ≡ 0)
+    (c : Content) (free : caseIn (contentP s) (length before) ≡ runs c)
   where
-    runs : Paused (placesIn c) (rootsIn c (at (c .now))) k before after a
-    runs = (rw says at x) .runs free
+    paused : Paused (placesIn c) (rootsIn c (at (c .now))) k before after a
+    paused = rw free at x
 
     holds : Holds (placesIn c) (told (a .reply) .steps) before after
-    holds = rw (runs .tells .says, steps-told (runs .outcome)) (runs .holds)
+    holds = rw (paused .tells .says, steps-told (paused .outcome)) (paused .holds)
 
     module _ (ws : List (List ℕ)) (wait : After (placesIn c) (told (a .reply) .steps) ws) where
       same : holds .waiting ≡ ws
       same = after-unique (placesIn c) (holds .order) wait
 
-      pub waiting-pinned : after ≡ holding (length (c .bundle)) ws before
-      waiting-pinned = holds .room ∙ ap (λ v. holding (length (c .bundle)) v before) same
+      pub waiting-pinned : Holding (length (c .bundle)) ws before after
+      waiting-pinned = rw same at (holds .room)
 
       pub waiting-few : length ws ≤ slotsOf (length (c .bundle))
       waiting-few = rw same at (holds .fits)

@@ -7,7 +7,6 @@ use mathlib.Core.Path.{_≡_, refl, sym, ap, _∙_}
 use Prim.Native.Nat.{ℕ, zero, suc, _≤_, _<_}
 use native.Mathlib.Omega.{arith}
 use lib.ListN.{length}
-use Rattle.fields.specs.Fields.{got}
 use Rattle.card.specs.Content.{Content, root, bundled, contentP}
 use Rattle.issuing.specs.Issued.{issued}
 use Rattle.order.specs.Listing.{_among_, Sorted, nil, cons}
@@ -15,12 +14,13 @@ use Rattle.order.specs.Paths.{Linked, Simple, Count, last}
 use Rattle.order.proofs.Simple.{last-at}
 use Rattle.policy.specs.Policy.{policy, chainOf}
 use Rattle.reply.specs.declared.Answer.{Answer}
-use Rattle.reply.specs.Answer.{told, saying, Searched, fault}
+use Rattle.reply.specs.Answer.{saying, Searched, runs}
+use Rattle.reply.specs.Numbers.{told}
 use Rattle.reply.specs.Settles.{QualifiesBy, Outcome, accepted, refused, exhausted, Settles}
 use Rattle.reply.proofs.Unique.{covers}
 use Rattle.question.specs.Asked.{placesIn, rootsIn}
 use Rattle.rules.specs.Rules.{at as timeAt}
-use Rattle.search.specs.Search.{Search}
+use Rattle.search.specs.Search.{caseIn, Search}
 use Rattle.search.specs.Valid.{at, SimplePath, ToRoot, Satisfies, Valid}
 
 -- ---- places of a path by their number
@@ -120,14 +120,14 @@ module _ (c : Content) where
 -- ---- of a file that can be read, with room enough and a budget that covers all n simple paths
 
 module _ (s before after : List ℕ) (a : Answer) (x : Search (contentP s) before after a)
-    (c : Content) (e : ℕ) (says : contentP s ≡ got c e) (free : fault (length (c .bundle)) (length before) ≡ 0)
+    (c : Content) (free : caseIn (contentP s) (length before) ≡ runs c)
     (n : ℕ) (all : Count (placesIn c) n) (enough : n ≤ c .budget)
   where
-    runs : Searched (placesIn c) (rootsIn c (timeAt (c .now))) (c .budget) before after a
-    runs = (rw says at x) .runs free
+    searched : Searched (placesIn c) (rootsIn c (timeAt (c .now))) (c .budget) before after a
+    searched = rw free at x
 
     pub accepted-valid : (told (a .reply) .number ≡ 0) ↔ Valid c
-    accepted-valid = rw (runs .tells .says) (settled c n all enough (runs .outcome) (runs .tells .settled))
+    accepted-valid = rw (searched .tells .says) (settled c n all enough (searched .outcome) (searched .tells .settled))
 
     pub yes-or-no : (told (a .reply) .number ≡ 0) ⊎ (told (a .reply) .number ≡ 1)
-    yes-or-no = rw (runs .tells .says) (never-exhausted c n all enough (runs .outcome) (runs .tells .settled))
+    yes-or-no = rw (searched .tells .says) (never-exhausted c n all enough (searched .outcome) (searched .tells .settled))

@@ -21,17 +21,18 @@ use Rattle.reply.specs.Answer.{pathShown, Tells, Paused, Searched}
 use Rattle.steps.specs.declared.walk.End.{End}
 use Rattle.steps.specs.declared.walk.Level.{Level}
 use Rattle.steps.specs.Parts.{waiting, Vain, Ends, Stopped}
-use Rattle.reply.specs.Room.{holding}
-use Rattle.reply.specs.Settles.{Roots, QualifiesBy, Qualifies, Outcome, accepted, refused, exhausted, Settles, steps}
+use Rattle.reply.specs.Laid.{holding}
+use Rattle.reply.specs.Settles.{Reach, QualifiesBy, Qualifies, Outcome, accepted, refused, exhausted, Settles, steps}
 use Rattle.steps.proofs.Levels.{Stands, closed, over-all, met}
+use Rattle.reply.proofs.Laid.{stack-in-slots, laid-holding}
 use Rattle.reply.proofs.Settled.{Barren, accepts, refuses, exhausts}
 
 -- ---- from any stack
 
-pub vain-none : {g : Places} {w : Roots} {st : List (List ℕ)} → Vain g w st 0
+pub vain-none : {g : Places} {w : Reach} {st : List (List ℕ)} → Vain g w st 0
 vain-none = record { all = refl; none = λ q m. absurd (List·Memᴰ·not-nil m) }
 
-module _ {g : Places} {w : Roots} {st : List (List ℕ)} {k : ℕ} (U : Vain g w st k) where
+module _ {g : Places} {w : Reach} {st : List (List ℕ)} {k : ℕ} (U : Vain g w st k) where
   vain-suc : {p : List ℕ} → top (pops g k st) ≡ p ∷ [] → ¬ Qualifies w p → Vain g w st (suc k)
   vain-suc {p} e n = record {
     all = rw e (length-append (tops g k st) (p ∷ []) ∙ omega (arith, U .all));
@@ -85,14 +86,14 @@ module _ {g : Places} {w : Roots} {st : List (List ℕ)} {k : ℕ} (U : Vain g w
   }
 
 -- what the walk's loop keeps
-pub record Going (g : Places) (w : Roots) (seats : List ℕ) (budget : ℕ) (st : List (List ℕ)) (ahead : List ℕ) (levels : List Level) (place : List ℕ) (row : ℕ) (here : Level) (d k : ℕ) : Type 0 where
+pub record Going (g : Places) (w : Reach) (seats : List ℕ) (budget : ℕ) (st : List (List ℕ)) (ahead : List ℕ) (levels : List Level) (place : List ℕ) (row : ℕ) (here : Level) (d k : ℕ) : Type 0 where
   pub stands : Stands g seats st ahead levels place row here d k
   pub vain : Vain g w st k
   pub time : k ≤ budget
 
 -- ---- from the leaf alone
 
-module _ (g : Places) (some : 0 < g .size) (w : Roots) where
+module _ (g : Places) (some : 0 < g .size) (w : Reach) where
   barren : {k : ℕ} → Vain g w ((0 ∷ []) ∷ []) k → Barren g w (paths-listing g some) k
   barren {k} v q m = v .none q (rw (stack-taken g some (paths-listing g some) k) m)
 
@@ -119,7 +120,7 @@ module _ (g : Places) (some : 0 < g .size) (w : Roots) where
 
 -- ---- what is answered, and what is left in the room
 
-module _ {g : Places} (some : 0 < g .size) (few : g .size ≤ bundleMost) {w : Roots} {k : ℕ} {e : End} (S : Stopped g (Settles g w k) ((0 ∷ []) ∷ []) e)
+module _ {g : Places} (some : 0 < g .size) (few : g .size ≤ bundleMost) {w : Reach} {k : ℕ} {e : End} (S : Stopped g (Settles g w k) ((0 ∷ []) ∷ []) e)
   where
     pub stopped-fits : length (waiting (g .size) (e .ahead) (e .place) (e .depths)) ≤ slotsOf (g .size)
     stopped-fits = rw (S .left) (after-fits g few (stack-after g some (steps (S .outcome))))
@@ -136,9 +137,9 @@ module _ {g : Places} (some : 0 < g .size) (few : g .size ≤ bundleMost) {w : R
           waiting = waiting (g .size) (e .ahead) (e .place) (e .depths);
           order = rw (S .left) (stack-after g some (steps (S .outcome)));
           fits = stopped-fits;
-          room = q;
+          room = laid-holding (g .size) (waiting (g .size) (e .ahead) (e .place) (e .depths)) stopped-fits (rw (S .left) (stack-in-slots g some few (steps (S .outcome)))) q;
         };
       }
 
       pub stopped-searched : {before after : List ℕ} → after ≡ holding (g .size) [] before → Searched g w k before after a
-      stopped-searched q = record { outcome = S .outcome; tells = tells; clear = q }
+      stopped-searched q = record { outcome = S .outcome; tells = tells; clear = laid-holding (g .size) [] zero-le (λ p m. absurd (List·Memᴰ·not-nil m)) q }

@@ -16,7 +16,7 @@ use Rattle.policy.proofs.Qualifying.{roots-qualify}
 use Rattle.steps.specs.declared.walk.End.{End}
 use Rattle.question.specs.Question.{placesBy, rootsBy}
 use Rattle.steps.specs.Parts.{rootsSeated, Ends, Stopped}
-use Rattle.reply.specs.Settles.{Roots, QualifiesBy, Settles}
+use Rattle.reply.specs.Settles.{Reach, QualifiesBy, Settles}
 use Rattle.reply.proofs.Agree.{settles-agree}
 use Rattle.steps.proofs.Ends.{ends-settles}
 
@@ -24,7 +24,7 @@ module _ (judged : Judged) (n : ℕ) (some : 1 ≤ n) (few : n ≤ bundleMost) (
   abbrev places : Places
   places = placesBy (judged .issuing .bundle) n
 
-  abbrev seated-roots : Roots
+  abbrev seated-roots : Reach
   seated-roots = rootsSeated (judged .issuing .roots) seats
 
   good-same : (p : List ℕ) (r : ℕ) → Simple places p → seated-roots .good p r ≡ ltb r rootsMost && rootsBy judged .good p r

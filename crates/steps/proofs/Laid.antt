@@ -15,8 +15,8 @@ use Rattle.order.specs.Slots.{slotsOf}
 use Rattle.order.specs.Walk.{put, keep, down, snoc}
 use Rattle.rows.specs.Rows.{has}
 use Rattle.steps.specs.Parts.{pathOf, offered, waiting}
-use Rattle.reply.specs.Room.{holding}
-use Rattle.reply.specs.Slots.{slotBytes, slotOf, flat}
+use Rattle.reply.specs.Laid.{flat, holding}
+use Rattle.reply.specs.Slots.{slotBytes, slotOf}
 use Rattle.reply.proofs.Slots.{length-slot, length-snoc, slot-child, length-flat, flat-append}
 use Rattle.steps.proofs.Levels.{waiting-last}
 use Rattle.steps.proofs.Stack.{path-slot, laidOut, push-room}

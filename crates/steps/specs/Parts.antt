@@ -15,7 +15,7 @@ use Rattle.steps.specs.declared.walk.Depths.{Depths}
 use Rattle.steps.specs.declared.walk.End.{End}
 use Rattle.steps.specs.declared.walk.Level.{Level}
 use Rattle.reply.specs.Answer.{saying, shown}
-use Rattle.reply.specs.Settles.{Roots, QualifiesBy, Qualifies, Outcome, accepted, refused, exhausted, steps}
+use Rattle.reply.specs.Settles.{Reach, QualifiesBy, Qualifies, Outcome, accepted, refused, exhausted, steps}
 
 -- the path that a slot holds
 unfoldable pub pathOf : List ℕ → List ℕ
@@ -24,7 +24,7 @@ pathOf s = take (getD s 0 0) (drop 1 s)
 -- ---- what is asked of the walk
 
 -- a path qualifies by root r: as it stands r may stand above it, and r issued its last place
-abbrev pub rootsSeated : List ℕ → List ℕ → Roots
+abbrev pub rootsSeated : List ℕ → List ℕ → Reach
 rootsSeated issued seats = record { count = 64; good = λ p r. has r (rootsOver issued seats p) }
 
 -- ---- what waits, by depths
@@ -66,12 +66,12 @@ onward seats l i = record { free = left (l .free) (joined 0 i); standing = added
 -- ---- a walk from any stack
 
 -- k steps from the stack st take k paths, none of which qualifies
-pub record Vain (g : Places) (w : Roots) (st : List (List ℕ)) (k : ℕ) : Type 0 where
+pub record Vain (g : Places) (w : Reach) (st : List (List ℕ)) (k : ℕ) : Type 0 where
   pub all : length (tops g k st) ≡ k
   pub none : (q : List ℕ) → q among tops g k st → ¬ Qualifies w q
 
 -- how a walk from the stack st with a budget of k ends: the steps before the last are in vain, and what the last one meets
-abbrev pub Ends : Places → Roots → ℕ → List (List ℕ) → Outcome → Type 0
+abbrev pub Ends : Places → Reach → ℕ → List (List ℕ) → Outcome → Type 0
 Ends g w k st (accepted p r s) = (j : ℕ) × (s ≡ suc j) × (s ≤ k) × Vain g w st j × (top (pops g j st) ≡ p ∷ []) × QualifiesBy w p r × ((i : ℕ) → QualifiesBy w p i → r ≤ i)
 Ends g w k st (refused s) = (s ≤ k) × Vain g w st s × (pops g s st ≡ [])
 Ends g w k st (exhausted s) = (s ≡ k) × Vain g w st s × ((p : List ℕ) × (top (pops g s st) ≡ p ∷ []))

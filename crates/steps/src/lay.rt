@@ -12,8 +12,8 @@ ghost use lib.ListN.{length, take, drop, getD, set};
 ghost use lib.Seq.{paste};
 ghost use Rattle.order.specs.Slots.{slotsOf};
 ghost use Rattle.places.specs.Limits.{bundleMost};
-ghost use Rattle.reply.specs.Room.{holding};
-ghost use Rattle.reply.specs.Slots.{slotBytes, slotOf, flat};
+ghost use Rattle.reply.specs.Laid.{flat, holding};
+ghost use Rattle.reply.specs.Slots.{slotBytes, slotOf};
 ghost use Rattle.steps.specs.Parts.{pathOf, offered, waiting};
 
 // Puts in slot t the child of s's path by place i.

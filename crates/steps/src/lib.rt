@@ -16,11 +16,11 @@ use reply::Slot;
 use reply::fault;
 ghost use lib.ListN.{length};
 ghost use Rattle.question.specs.Question.{placesOf, rootsOf};
-ghost use Rattle.reply.specs.Answer.{fault, Answered, Paused, Searched};
+ghost use Rattle.reply.specs.Answer.{Paused, Searched, caseOf, Answered};
 
 // Searches with this budget, and leaves the paths that wait then in the needed slots.
 pub fn paused(room: &mut [u8], question: Question, budget: u64) -> Answer
-    ensures { λ r. ⌜ Answered (Paused (placesOf question) (rootsOf question) budget (now (room .entry)) (now (room .exit)) r) (fault (question .size) (length (now (room .entry)))) (now (room .entry)) (now (room .exit)) r ⌝ }
+    ensures { λ r. ⌜ Answered (λ q. Paused (placesOf q) (rootsOf q) budget (now (room .entry)) (now (room .exit)) r) (caseOf question (question .size) (length (now (room .entry)))) (now (room .entry)) (now (room .exit)) r ⌝ }
 {
     let n = question.size;
     let stop = fault(n, room.len());
@@ -36,7 +36,7 @@ pub fn paused(room: &mut [u8], question: Question, budget: u64) -> Answer
 
 // Searches with the question's own budget, and leaves zeros in the needed slots.
 pub fn search(room: &mut [u8], question: Question) -> Answer
-    ensures { λ r. ⌜ Answered (Searched (placesOf question) (rootsOf question) (question .budget) (now (room .entry)) (now (room .exit)) r) (fault (question .size) (length (now (room .entry)))) (now (room .entry)) (now (room .exit)) r ⌝ }
+    ensures { λ r. ⌜ Answered (λ q. Searched (placesOf q) (rootsOf q) (q .budget) (now (room .entry)) (now (room .exit)) r) (caseOf question (question .size) (length (now (room .entry)))) (now (room .entry)) (now (room .exit)) r ⌝ }
 {
     let n = question.size;
     let stop = fault(n, room.len());

@@ -1,8 +1,10 @@
 -- `paused` hands a file's question and k to the paused run over it, and tells why a file can't be read. Assumes nothing.
 use borrow.Author.Needs.{needs}
+use Rattle.question.proofs.Asked.{stop-says}
+use Rattle.reply.proofs.Faults.{stopped}
 use Rattle.search.proofs.paused.Statement.{statement}
 use Rattle.search.proofs.paused.Tie as tie
-use Rattle.search.proofs.Asked.{held-paused, unread}
+use Rattle.search.proofs.Asked.{held-paused}
 
 pose-requires : tie.Need-pose-requires
 pose-requires c κs = search needs
@@ -21,7 +23,8 @@ returns c =
     let r = c .before .before in
     let u = r .before .before in
     let p = u .before .before .pose in
-    held-paused _ _ (p .result) (p .ensures) (u .enum-told .given .1) _ (r .paused .ensures)
+    let a = u .before .before .before .before .before .args in
+    held-paused _ _ (p .result) (p .ensures) (a .room .now) (r .paused .last .0) (r .paused .result) (u .enum-told .given .1) (a .k) (r .paused .ensures)
 
 enum-known-outcome : tie.Need-enum-known-outcome
 enum-known-outcome c = search needs
@@ -37,7 +40,7 @@ returns-2 c =
     let n = c .before in
     let o = n .before .before in
     let p = o .before .before .pose in
-    unread _ _ (p .result) (p .ensures) _ _ _ (o .outcome .given .1) (n .number .ensures) (c .stopped .ensures .0) (c .stopped .ensures .1)
+    rw (stop-says _ _ (p .result) (p .ensures) _ (o .outcome .given .1)) (stopped (n .number .ensures) (c .stopped .ensures .0) (c .stopped .ensures .1))
 
 pub paused-spec : {M : Type 1} → statement M
 paused-spec =

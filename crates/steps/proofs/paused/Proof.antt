@@ -1,9 +1,8 @@
 -- `paused` replies as its contract says. Assumes nothing.
 use native.Mathlib.Omega.{arith}
-use mathlib.Core.Path.{refl, sym, ap, _∙_}
+use mathlib.Core.Path.{sym, _∙_}
 use lib.ListN.{length}
-use Rattle.reply.specs.declared.Reply.the-variants.{Error}
-use Rattle.reply.proofs.Faults.{Clear, clear, answered-runs, answered-stops}
+use Rattle.reply.proofs.Faults.{Clear, clear, clear-runs, stopped, answered-stops}
 use Rattle.steps.proofs.Ends.{stopped-fits, stopped-paused}
 use borrow.Author.Needs.{needs}
 use Rattle.steps.proofs.paused.Statement.{statement}
@@ -19,11 +18,11 @@ returns : tie.Need-returns
 returns c =
     let t = c .before in
     let e = t .before .fault .ensures in
-    answered-stops (omega (arith, e, t .if1 .taken)) (c .stopped .ensures .0 ∙ ap Error e) (c .stopped .ensures .1) refl
+    answered-stops _ _ _ _ _ _ _ (omega (arith, e, t .if1 .taken)) (stopped e (c .stopped .ensures .0) (c .stopped .ensures .1))
 
 -- nothing stands in the way
 ready : (c : tie.Else1) → Clear (c .before .before .before .args .question .size) (length (c .before .before .before .args .room .now))
-ready c = clear _ _ (sym (c .before .fault .ensures) ∙ c .if1 .left)
+ready c = clear _ _ _ (sym (c .before .fault .ensures) ∙ c .if1 .left)
 
 run-requires : tie.Need-run-requires
 run-requires c κs = let k = ready c in (k .some, k .few)
@@ -45,8 +44,7 @@ returns-2 c =
     let l = c .before .before .before in
     let r = l .before .before .before .before in
     let k = ready (r .before) in
-    answered-runs (sym (r .before .before .fault .ensures) ∙ r .before .if1 .left)
-    (stopped-paused (k .some) (k .few) (r .run .ensures) (c .answer-of .ensures .0) (c .answer-of .ensures .1) (l .leave .ensures))
+    rw (clear-runs _ _ _ k) (stopped-paused (k .some) (k .few) (r .run .ensures) (c .answer-of .ensures .0) (c .answer-of .ensures .1) (l .leave .ensures))
 
 pub paused-spec : {M : Type 1} → statement M
 paused-spec =

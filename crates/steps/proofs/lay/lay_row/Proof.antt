@@ -11,7 +11,8 @@ use lib.ListN.{length, take-append-drop}
 use Rattle.order.specs.Walk.{snoc}
 use Rattle.rows.specs.Rows.{has}
 use Rattle.steps.specs.Parts.{pathOf, offered}
-use Rattle.reply.specs.Slots.{slotBytes, slotOf, flat}
+use Rattle.reply.specs.Laid.{flat}
+use Rattle.reply.specs.Slots.{slotBytes, slotOf}
 use Rattle.steps.proofs.Laid.{offered-yes, offered-no, child-below, child-room}
 use Rattle.steps.proofs.Stack.{slot-len, laidOut, slot-next}
 use Rattle.steps.proofs.lay.lay_row.Statement.{statement}
