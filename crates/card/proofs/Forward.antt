@@ -3,7 +3,7 @@ use mathlib.Core.List.{List}
 use lib.Dec.{eqb}
 use lib.ListN.{length}
 use Rattle.places.specs.Limits.{rootsMost, bundleMost}
-use Rattle.fields.proofs.Forward.{Forward, edition, told, judged, then}
+use Rattle.fields.proofs.Forward.{Forward, edition, at-hand, judged, then}
 use Rattle.fields.proofs.ForwardFields.{count-forward, byte-forward, string-forward, big-forward, counted-forward}
 use Rattle.record.specs.Certificate.{Certificate}
 use Rattle.record.proofs.Forward.{certificate-forward}
@@ -28,4 +28,4 @@ sections-forward =
     then (big-forward 8) (λ budget.
     then purpose-forward (λ _.
     then (string-forward 0 hostMost) (λ host.
-    told _)))))))))
+    at-hand _)))))))))

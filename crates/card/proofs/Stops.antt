@@ -24,9 +24,9 @@ use Rattle.task.specs.Task.{hostMost, purposeP}
 use Rattle.task.specs.Placed.{timesP, taskP}
 use Rattle.card.specs.Card.{cardP, fileP}
 use Rattle.card.specs.Content.{fileMost, editionP}
-use Rattle.card.specs.Answers.{numberOf, told, answer}
+use Rattle.card.specs.Answers.{numberOf, readAs, answer}
 use Rattle.card.specs.declared.Card.{Card}
-use Rattle.card.specs.declared.Outcome.the-variants.{Read}
+use Rattle.card.specs.declared.Ended.the-variants.{Read}
 use Rattle.card.specs.declared.Reading.{Reading}
 
 -- where reading stops, it is at one of 4 to 9
@@ -243,10 +243,10 @@ pub record WasRead (s : List ℕ) (c : Card) : Type 0 where
   pub end : ℕ
   pub is : fileP s ≡ got c end
 
-pub answered-read : (s : List ℕ) (r : Reading) → told r ≡ answer (fileP s) → r .outcome ≡ Read → WasRead s (r .card)
+pub answered-read : (s : List ℕ) (r : Reading) → readAs r ≡ answer (fileP s) → r .ended ≡ Read → WasRead s (r .card)
 answered-read s r h o = by-file (fileP s) refl h
   where
-    by-file : (x : Parsed Card) → fileP s ≡ x → told r ≡ answer x → WasRead s (r .card)
+    by-file : (x : Parsed Card) → fileP s ≡ x → readAs r ≡ answer x → WasRead s (r .card)
     by-file (got c e) k t =
         let d : c ≡ r .card = sym (ap (λ (p : ℕ × Card). p .1) t) in
         record { end = e; is = k ∙ ap (λ (c : Card). got c e) d }

@@ -4,18 +4,18 @@ use Rattle.fields.specs.Fields.{Parsed, got, stop}
 use Rattle.fields.specs.Answers.{number}
 use Rattle.card.specs.Card.{fresh-card}
 use Rattle.card.specs.declared.Card.{Card}
-use Rattle.card.specs.declared.Outcome.{Outcome}
-use Rattle.card.specs.declared.Outcome.the-variants as outcome
+use Rattle.card.specs.declared.Ended.{Ended}
+use Rattle.card.specs.declared.Ended.the-variants as ended
 use Rattle.card.specs.declared.Reading.{Reading}
 
 -- the reply's number, 0 for a file that was read
-abbrev pub numberOf : Outcome → ℕ
-numberOf outcome.Read = 0
-numberOf (outcome.Stop f) = number f
+abbrev pub numberOf : Ended → ℕ
+numberOf ended.Read = 0
+numberOf (ended.Stop f) = number f
 
 -- a reading's number and card
-abbrev pub told : Reading → ℕ × Card
-told r = (numberOf (r .outcome), r .card)
+abbrev pub readAs : Reading → ℕ × Card
+readAs r = (numberOf (r .ended), r .card)
 
 -- what a reading must tell: the card, or the fault's number and a card of nothing but zeros
 abbrev pub answer : Parsed Card → ℕ × Card

@@ -8,7 +8,7 @@ use lib.Dec.{eqb, leb, ltb}
 use lib.ListN.{length, getD}
 use Rattle.places.specs.Limits.{rootsMost, bundleMost}
 use Rattle.fields.specs.Fields.{Parsed, got, stop, after, countP, byteP, stringP, bigP, countedP, whole}
-use Rattle.record.specs.Certificate.{Certificate, certificateP}
+use Rattle.record.specs.Certificate.{Certificate, certificate, certificateP}
 use Rattle.verdicts.specs.Verdicts.{verdictsP}
 use Rattle.task.specs.Task.{purposeP, hostMost}
 
@@ -54,24 +54,7 @@ pub data Issuer : Type 0 where
 
 -- what stands at a place that is not there
 abbrev pub nobody : Certificate
-nobody =
-    record {
-      version = 0;
-      flags = 0;
-      not-before = 0;
-      not-after = 0;
-      serial = [];
-      outer = [];
-      inner = [];
-      issuer = [];
-      subject = [];
-      authority-key-id = none;
-      authority-serial = none;
-      subject-key-id = none;
-      path-length = none;
-      usages = [];
-      dns-names = [];
-    }
+nobody = certificate 0 0 0 0 [] [] [] [] [] none none none none [] []
 
 -- the certificate at a place
 abbrev pub certificateAt : Content → Issuer → Certificate

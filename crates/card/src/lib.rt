@@ -24,7 +24,7 @@ ghost use Rattle.fields.specs.Fields.{got, stop, after};
 ghost use Rattle.fields.specs.Answers.{passed, passing, held};
 ghost use Rattle.card.specs.Card.{fileP, fresh-card};
 ghost use Rattle.card.specs.Content.{fileMost, editionP};
-ghost use Rattle.card.specs.Answers.{told, answer};
+ghost use Rattle.card.specs.Answers.{readAs, answer};
 
 // A card file that was read.
 pub struct Card {
@@ -52,21 +52,22 @@ impl Card {
     }
 }
 
-pub enum Outcome {
+// How reading ended.
+pub enum Ended {
     Read,
     Stop(Fault),
 }
 
-// What reading a file came to; with a fault the card is nothing but zeros. The outcome stands last, so that the card is copied whole and
+// What reading a file came to; with a fault the card is nothing but zeros. How it ended stands last, so that the card is copied whole and
 // aligned.
 pub struct Reading {
     pub card: Card,
-    pub outcome: Outcome,
+    pub ended: Ended,
 }
 
 // A file's card, or the first fault from left to right.
 pub fn read(file: &[u8]) -> Reading
-    ensures { λ r. ⌜ told r ≡ answer (fileP (now (file .entry))) ⌝ }
+    ensures { λ r. ⌜ readAs r ≡ answer (fileP (now (file .entry))) ⌝ }
 {
     let begun = edition_past(file);
     let roots_read = roots_after(file, begun);
@@ -135,19 +136,19 @@ fn end_after(file: &[u8], past: Past) -> Past
 
 // With a fault nothing is handed out of what was read before it. Each arm returns, so that the card is not copied out of the match.
 fn settled(end: Past, card: Card) -> Reading
-    ensures { λ r. ⌜ told r ≡ answer (held end card) ⌝ }
+    ensures { λ r. ⌜ readAs r ≡ answer (held end card) ⌝ }
 {
     match end {
         Past::Got(_) => {
             return Reading {
                 card,
-                outcome: Outcome::Read,
+                ended: Ended::Read,
             };
         }
         Past::Stop(fault) => {
             return Reading {
                 card: Card::new(),
-                outcome: Outcome::Stop(fault),
+                ended: Ended::Stop(fault),
             };
         }
     }

@@ -1,6 +1,7 @@
 // Authority key identifiers for C.
 ghost use mathlib.Core.Path.{_≡_};
-ghost use Rattle.keys.specs.AuthKeyId.{given, checkAuthKeyId};
+ghost use Rattle.keys.specs.AuthKeyId.{checkAuthKeyId};
+ghost use Rattle.keys.specs.Given.{given};
 ghost use Rattle.desk.specs.Leaves.{flagged, yesNo};
 
 // Whether what a subject says of its issuer's key fits the issuer. A part that is not present is not read.

@@ -2,7 +2,8 @@
 ghost use mathlib.Core.Path.{_≡_};
 ghost use Rattle.fields.specs.Fields.{whole};
 ghost use Rattle.names.specs.Names.{attrP, rdnP, nameP};
-ghost use Rattle.same.specs.Same.{sameAttr, rdnHasName, sameRdn, sameDn};
+ghost use Rattle.same.specs.Same.{sameAttr, sameRdn, sameDn};
+ghost use Rattle.same.specs.Matching.{rdnHasName};
 ghost use Rattle.same.specs.Answers.{asked};
 ghost use Rattle.subtree.specs.Subtree.{isSubtreeRdn, isSubtreeOf};
 ghost use Rattle.desk.specs.Leaves.{flagged};

@@ -13,7 +13,8 @@ use Rattle.text.specs.Normal.{onto, pieces, wordsOf, normal}
 use Rattle.text.specs.Wildcard.{starDot, label, underDomain, underStar, matchName}
 use Rattle.keys.specs.Address.{masked, holds, ipAddrInRange}
 use Rattle.names.specs.Names.{Attr}
-use Rattle.same.specs.Same.{sameAttr, rdnHasName}
+use Rattle.same.specs.Same.{sameAttr}
+use Rattle.same.specs.Matching.{rdnHasName}
 use Rattle.subtree.specs.Subtree.{isSubtreeRdn}
 
 -- a text's bytes

@@ -2,7 +2,7 @@
 use crate::say;
 use card::Bundle;
 use card::Card;
-use card::Outcome;
+use card::Ended;
 use card::read;
 use policy::Judged;
 use policy::Seats;
@@ -20,8 +20,8 @@ use rules::Time;
 // lowest_root|PATH|CARD
 pub(crate) fn lowest_root(label: &[u8], path: &[u8], file: &[u8]) {
     let reading = read(file);
-    let outcome = reading.outcome;
-    if let Outcome::Stop(fault) = outcome {
+    let ended = reading.ended;
+    if let Ended::Stop(fault) = ended {
         say::reply(label, fault.number() as usize);
         return;
     }

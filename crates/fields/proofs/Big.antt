@@ -9,13 +9,13 @@ use lib.ListN.{length, getD, take, drop}
 use lib.Seq.{take-suc}
 use lib.Pow.{pow-add, pow-mono}
 use borrow.Author.Tests.{le-leb, lt-leb}
-use Rattle.fields.specs.Fields.{got, stop, bytesP, bigFrom, bigEndian, bigP}
+use Rattle.fields.specs.Fields.{got, stop, bytesP, bigEndian, bigP}
 
-big-snoc : (v : ℕ) (l : List ℕ) (b : ℕ) → bigFrom v (l ++ (b ∷ [])) ≡ bigFrom v l * 256 + b
+big-snoc : (v : ℕ) (l : List ℕ) (b : ℕ) → bigEndian v (l ++ (b ∷ [])) ≡ bigEndian v l * 256 + b
 big-snoc v [] b = refl
 big-snoc v (a ∷ l) b = big-snoc (v * 256 + a) l b
 
-pub big-step : (l : List ℕ) (i v : ℕ) → i < length l → v ≡ bigEndian (take i l) → v * 256 + getD l i 0 ≡ bigEndian (take (i + 1) l)
+pub big-step : (l : List ℕ) (i v : ℕ) → i < length l → v ≡ bigEndian 0 (take i l) → v * 256 + getD l i 0 ≡ bigEndian 0 (take (i + 1) l)
 big-step l i v h e = rw (add-one, take-suc l i 0, big-snoc, ← e)
 
 pub big-less : (i v b : ℕ) → v < 2 ^ (8 * i) → b < 256 → v * 256 + b < 2 ^ (8 * (i + 1))
@@ -34,7 +34,7 @@ module _ (width : ℕ) (s : List ℕ) (at : ℕ) where
   big-cut h = rw (lt-leb (at + width) (length s) h)
 
   -- the slice from a place up to the place past the number holds its bytes
-  pub big-got : at + width ≤ length s → (v : ℕ) → v ≡ bigEndian (take (at + width - at) (drop at s)) → bigP width s at ≡ got v (at + width)
+  pub big-got : at + width ≤ length s → (v : ℕ) → v ≡ bigEndian 0 (take (at + width - at) (drop at s)) → bigP width s at ≡ got v (at + width)
   unfolding bigP bytesP
   big-got h v e =
       let w : at + width - at ≡ width = omega arith in

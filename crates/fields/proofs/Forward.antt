@@ -1,5 +1,5 @@
 -- Readers that go from left to right: the bytes up to where a reader stops decide what it finds, and with fewer of them the file is cut
--- short. A value (`told`), a judged value (`judged`), a thing that is read where a test holds (`judging`), and one reader after another
+-- short. A value (`at-hand`), a judged value (`judged`), a thing that is read where a test holds (`judging`), and one reader after another
 -- (`then`). The readers of `specs/Fields` are in `ForwardFields`. Assumes nothing.
 use Prim.Native.Nat.{ℕ, _<_, _≤_}
 use mathlib.Core.Path.{_≡_, refl, sym, ap, _∙_}
@@ -43,8 +43,8 @@ module _ {A : Type 0} where
   at-once : (p : List ℕ → ℕ → Parsed A) (s : List ℕ) (at : ℕ) (x : Parsed A) → at ≤ length s → ((t : List ℕ) → p t at ≡ x) → Settled p s at x at
   at-once p s at x h always = record { begins = omega arith; within = h; same = λ t _. always t; less = λ i l m. absurd (omega arith) }
 
-  pub told : (a : A) → Forward (λ s at. got a at)
-  told a = record { from = λ s at h. found a at (at-once _ s at _ h (λ t. refl)) }
+  pub at-hand : (a : A) → Forward (λ s at. got a at)
+  at-hand a = record { from = λ s at h. found a at (at-once _ s at _ h (λ t. refl)) }
 
   -- what is read where a test holds, and a fault where it does not
   pub judging : (b : Bool) {p : List ℕ → ℕ → Parsed A} {r : ℕ} → Forward p → Shown r → Forward (λ s at. cond b (p s at) (stop r))
@@ -52,7 +52,7 @@ module _ {A : Type 0} where
   judging false {r = r} g f = record { from = λ s at h. fault r at f (at-once _ s at _ h (λ t. refl)) }
 
   pub judged : (b : Bool) (a : A) {r : ℕ} → Shown r → Forward (λ s at. cond b (got a at) (stop r))
-  judged b a f = judging b (told a) f
+  judged b a f = judging b (at-hand a) f
 
 -- ---- one after another
 

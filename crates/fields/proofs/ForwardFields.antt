@@ -12,7 +12,7 @@ use lib.Seq.{length-take-le, getD-take, take-add, drop-at}
 use borrow.Author.Tests.{ltb-true, ltb-false, leb-true, leb-false, lt-ltb, le-leb, lt-leb}
 use Rattle.fields.specs.Fields.{Parsed, got, stop, countP, byteP, bytesP, stringP, bigEndian, bigP, optionalP, many, countedP}
 use Rattle.fields.proofs.Counts.{count-cut}
-use Rattle.fields.proofs.Forward.{Settled, Forwards, found, fault, short, Forward, count, told, then}
+use Rattle.fields.proofs.Forward.{Settled, Forwards, found, fault, short, Forward, count, at-hand, then}
 
 -- ---- files with the same beginning
 
@@ -118,18 +118,18 @@ string-forward least most = then (count-forward least most) (λ n. bytes-forward
 
 pub big-forward : (width : ℕ) → Forward (bigP width)
 unfolding bigP
-big-forward width = then (bytes-forward width) (λ l. told (bigEndian l))
+big-forward width = then (bytes-forward width) (λ l. at-hand (bigEndian 0 l))
 
 module _ {A : Type 0} {p : List ℕ → ℕ → Parsed A} (each : Forward p) where
   pub optional-forward : (announced : Bool) → Forward (optionalP announced p)
   unfolding optionalP
-  optional-forward true = then each (λ a. told (some a))
-  optional-forward false = told none
+  optional-forward true = then each (λ a. at-hand (some a))
+  optional-forward false = at-hand none
 
   pub many-forward : (n : ℕ) → Forward (many p n)
   unfolding many
-  many-forward zero = told []
-  many-forward (suc n) = then each (λ a. then (many-forward n) (λ l. told (a ∷ l)))
+  many-forward zero = at-hand []
+  many-forward (suc n) = then each (λ a. then (many-forward n) (λ l. at-hand (a ∷ l)))
 
   pub counted-forward : (least most : ℕ) → Forward (countedP least most p)
   unfolding countedP

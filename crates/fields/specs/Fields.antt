@@ -37,17 +37,14 @@ bytesP n s at = cond (leb (at + n) (length s)) (got (take n (drop at s)) (at + n
 unfoldable pub stringP : ℕ → ℕ → List ℕ → ℕ → Parsed (List ℕ)
 stringP least most s at = after (countP least most s at) (λ n e. bytesP n s e)
 
--- bytes as one number, the highest first: v is the number that those before them make
-abbrev pub bigFrom : ℕ → List ℕ → ℕ
-bigFrom v [] = v
-bigFrom v (b ∷ l) = bigFrom (v * 256 + b) l
-
-abbrev pub bigEndian : List ℕ → ℕ
-bigEndian l = bigFrom 0 l
+-- bytes as one number, the highest first, after those that make v
+abbrev pub bigEndian : ℕ → List ℕ → ℕ
+bigEndian v [] = v
+bigEndian v (b ∷ l) = bigEndian (v * 256 + b) l
 
 -- a number of so many bytes
 unfoldable pub bigP : ℕ → List ℕ → ℕ → Parsed ℕ
-bigP width s at = after (bytesP width s at) (λ l e. got (bigEndian l) e)
+bigP width s at = after (bytesP width s at) (λ l e. got (bigEndian 0 l) e)
 
 -- a thing that stands there only where it is announced
 unfoldable pub optionalP : {A : Type 0} → Bool → (List ℕ → ℕ → Parsed A) → List ℕ → ℕ → Parsed (Option A)

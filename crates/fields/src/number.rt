@@ -45,7 +45,7 @@ fn number_at(file: &[u8], at: usize, width: usize) -> NumberAt
 // Up to eight bytes as one number.
 fn big_endian(bytes: &[u8]) -> u64
     requires { ⌜ length (now bytes) ≤ 8 ⌝ }
-    ensures { λ r. ⌜ r ≡ bigEndian (now (bytes .entry)) ⌝ }
+    ensures { λ r. ⌜ r ≡ bigEndian 0 (now (bytes .entry)) ⌝ }
 {
     let mut value: u64 = 0;
     let mut i: usize = 0;

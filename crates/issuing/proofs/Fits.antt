@@ -7,7 +7,8 @@ use mathlib.Core.List.{List}
 use Rattle.fields.specs.Spans.{bytesOf}
 use Rattle.fields.specs.declared.string.Span.{Span}
 use Rattle.same.specs.Answers.{sameNames}
-use Rattle.keys.specs.AuthKeyId.{given, checkAuthKeyId}
+use Rattle.keys.specs.AuthKeyId.{checkAuthKeyId}
+use Rattle.keys.specs.Given.{given}
 use Rattle.extensions.specs.Flags.{hasAuthorityKeyId, hasAuthoritySerial, hasSubjectKeyId}
 use Rattle.extensions.specs.Extensions.{present}
 use Rattle.extensions.specs.declared.KeyIds.{KeyIds}

@@ -5,7 +5,8 @@ use mathlib.Core.Bool.{Bool, true, false}
 use mathlib.Core.List.{List}
 use mathlib.Core.Option.{Option, some}
 use Rattle.text.specs.Bytes.{same}
-use Rattle.keys.specs.AuthKeyId.{given, agree, checkAuthKeyId}
+use Rattle.keys.specs.AuthKeyId.{agree, checkAuthKeyId}
+use Rattle.keys.specs.Given.{given}
 
 -- ---- two parts, each with its flag
 

@@ -5,11 +5,6 @@ use mathlib.Core.List.{List}
 use mathlib.Core.Option.{Option, none, some}
 use Rattle.text.specs.Bytes.{same}
 
--- an optional part: its bytes where its flag says that it is present
-abbrev pub given : Bool → List ℕ → Option (List ℕ)
-given true s = some s
-given false s = none
-
 -- compared byte for byte where both are present
 abbrev pub agree : Option (List ℕ) → Option (List ℕ) → Bool
 agree (some a) (some b) = same a b

@@ -1,2 +1,3 @@
 pub mod AuthKeyId
+pub mod Given
 pub mod Address

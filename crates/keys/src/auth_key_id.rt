@@ -1,6 +1,7 @@
 // Authority key identifiers (RFC 5280, 4.2.1.1).
 ghost use mathlib.Core.Path.{_≡_};
-ghost use Rattle.keys.specs.AuthKeyId.{given, checkAuthKeyId};
+ghost use Rattle.keys.specs.AuthKeyId.{checkAuthKeyId};
+ghost use Rattle.keys.specs.Given.{given};
 
 // Whether what a subject says of its issuer's key fits the issuer: the subject's authority key id and authority serial,
 // the issuer's subject key id and serial. A part that is not present is not read.

@@ -1,11 +1,11 @@
 -- An attribute, an RDN and a name are read from left to right. Assumes nothing.
-use Rattle.fields.proofs.Forward.{Forward, told, then}
+use Rattle.fields.proofs.Forward.{Forward, at-hand, then}
 use Rattle.fields.proofs.ForwardFields.{string-forward, counted-forward}
 use Rattle.names.specs.Names.{oidMost, valueMost, rdnMost, nameMost, attrP, rdnP, nameP}
 
 pub attr-forward : Forward attrP
 unfolding attrP
-attr-forward = then (string-forward 1 oidMost) (λ o. then (string-forward 0 valueMost) (λ v. told (record { oid = o; value = v })))
+attr-forward = then (string-forward 1 oidMost) (λ o. then (string-forward 0 valueMost) (λ v. at-hand (record { oid = o; value = v })))
 
 pub rdn-forward : Forward rdnP
 unfolding rdnP

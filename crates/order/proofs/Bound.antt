@@ -9,10 +9,10 @@ use lib.ListN.{length, length-append, length-map}
 use Rattle.places.specs.Limits.{bundleMost}
 use Rattle.order.specs.Listing.{_among_}
 use Rattle.order.specs.Paths.{Places, Simple, Listing}
-use Rattle.order.specs.Slots.{formula, slotsOf}
+use Rattle.order.specs.Slots.{slotsOf}
 use Rattle.order.specs.Waiting.{Waiting, After}
 use Rattle.order.specs.Walk.{kids, pop, stack}
-use Rattle.order.proofs.Formula.{slots-formula}
+use Rattle.order.proofs.Formula.{formula, slots-formula}
 use Rattle.order.proofs.Simple.{simple-length, next-few}
 use Rattle.order.proofs.Stack.{stack-simple}
 use Rattle.order.proofs.Tree.{kid-simple, kid-length, none-listing}

@@ -1,12 +1,16 @@
 -- Laws of `slotsOf`: where it is the formula, where it is 0, and what lies between. Assumes nothing.
 use mathlib.Core.Path.{_≡_}
 use mathlib.Core.Logic.{⊎-elim}
-use Prim.Native.Nat.{ℕ, _-_, _≤_, _<_}
+use Prim.Native.Nat.{ℕ, _+_, _-_, _*_, _/_, _≤_, _<_}
 use native.Mathlib.Nat.{eq-zero-or-pos, mul-le-mul}
 use native.Mathlib.Omega.{arith}
 use borrow.Author.Tests.{le-leb, lt-leb}
 use Rattle.places.specs.Limits.{bundleMost}
-use Rattle.order.specs.Slots.{formula, slotsOf}
+use Rattle.order.specs.Slots.{slotsOf}
+
+-- (n-1)(n-2)/2+1, for n ≥ 1
+abbrev pub formula : ℕ → ℕ
+formula n = (n - 1) * (n - 2) / 2 + 1
 
 pub slots-formula : (n : ℕ) → 1 ≤ n → n ≤ bundleMost → slotsOf n ≡ formula n
 slots-formula n h k = rw (le-leb 1 n h, le-leb n bundleMost k)

@@ -4,10 +4,6 @@ use Prim.Native.Nat.{ℕ, _+_, _-_, _*_, _/_}
 use lib.Dec.{leb}
 use Rattle.places.specs.Limits.{bundleMost}
 
--- (n-1)(n-2)/2+1, for n ≥ 1
-abbrev pub formula : ℕ → ℕ
-formula n = (n - 1) * (n - 2) / 2 + 1
-
--- the same for as many as a bundle has at most, and 0 for n = 0 and past them
+-- (n-1)(n-2)/2+1 for as many as a bundle has at most, and 0 for n = 0 and past them
 abbrev pub slotsOf : ℕ → ℕ
-slotsOf n = cond (leb 1 n && leb n bundleMost) (formula n) 0
+slotsOf n = cond (leb 1 n && leb n bundleMost) ((n - 1) * (n - 2) / 2 + 1) 0

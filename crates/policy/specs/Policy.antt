@@ -18,10 +18,6 @@ pub record Chain : Type 0 where
 abbrev pub everyone : Chain → List Certificate
 everyone ch = ch .leaf ∷ (ch .between ++ (ch .top ∷ []))
 
--- all but the root
-abbrev pub belowRoot : Chain → List Certificate
-belowRoot ch = ch .leaf ∷ ch .between
-
 -- c1 to ck
 abbrev pub aboveLeaf : Chain → List Certificate
 aboveLeaf ch = ch .between ++ (ch .top ∷ [])
@@ -34,7 +30,7 @@ pathLengths n (c ∷ l) = allows n c && pathLengths (n + 1) l
 unfoldable pub policy : Time → List ℕ → Chain → Bool
 policy time host ch =
     all (inDate time) (everyone ch)
-    && all wellFormed (belowRoot ch)
+    && all wellFormed (ch .leaf ∷ ch .between)
     && all handled (everyone ch)
     && all authority (aboveLeaf ch)
     && pathLengths 0 (aboveLeaf ch)
@@ -46,8 +42,5 @@ policy time host ch =
 -- the chain of a path, by its first place and those after it, and a root
 abbrev pub chainOf : Content → ℕ → List ℕ → ℕ → Chain
 chainOf c leaf between r =
-    record {
-      leaf = certificateAt c (bundled leaf);
-      between = map (λ i. certificateAt c (bundled i)) between;
-      top = certificateAt c (root r);
-    }
+    let at : ℕ → Certificate = λ i. certificateAt c (bundled i) in
+    record { leaf = at leaf; between = map at between; top = certificateAt c (root r) }

@@ -1,4 +1,4 @@
--- Which paths reach a root, and by which root a path qualifies at a time (docs/CARD-FILE.md, "Policy"). Assumes nothing.
+-- By which roots a path qualifies at a time (docs/CARD-FILE.md, "Policy"). Assumes nothing.
 use Prim.Native.Nat.{ℕ}
 use mathlib.Core.Bool.{Bool, false, _&&_}
 use mathlib.Core.List.{List, [], _∷_}
@@ -8,12 +8,7 @@ use Rattle.order.specs.Paths.{last}
 use Rattle.rules.specs.declared.rules.Time.{Time}
 use Rattle.policy.specs.Policy.{policy, chainOf}
 
--- root r issued the last of a path
-abbrev pub reaches : Content → List ℕ → ℕ → Bool
-reaches c [] r = false
-reaches c (p ∷ l) r = issued c (root r) (last p l)
-
--- a path reaches root r, and the chain satisfies the policy
+-- root r issued the last of a path, and the chain satisfies the policy
 abbrev pub qualifies : Content → Time → List ℕ → ℕ → Bool
 qualifies c time [] r = false
-qualifies c time (p ∷ l) r = reaches c (p ∷ l) r && policy time (c .host) (chainOf c p l r)
+qualifies c time (p ∷ l) r = issued c (root r) (last p l) && policy time (c .host) (chainOf c p l r)

@@ -12,7 +12,7 @@ use Rattle.card.specs.Card.{fileP}
 use Rattle.card.specs.Content.{Content, contentP}
 use Rattle.card.specs.Parts.{contentOf}
 use Rattle.card.specs.declared.Card.{Card}
-use Rattle.card.specs.declared.Outcome.the-variants.{Read, Stop}
+use Rattle.card.specs.declared.Ended.the-variants.{Read, Stop}
 use Rattle.card.proofs.Sections.{card-read}
 use Rattle.card.proofs.Values.{content-got, content-stops}
 use Rattle.card.proofs.Stops.{file-stops}
@@ -60,23 +60,23 @@ module _ (s : List ℕ) (w : When) (x : Posed) (is : posedAs x ≡ posed s w (fi
             };
       }
 
-  pub put-asks : x .outcome ≡ Read → Put-of s w (x .question)
+  pub put-asks : x .ended ≡ Read → Put-of s w (x .question)
   put-asks o = by-file (fileP s) refl
     where
       by-file : (y : Parsed Card) → fileP s ≡ y → Put-of s w (x .question)
       by-file (got c end) k = rw (ap (λ (p : ℕ × Question). p .1) (is ∙ ap (posed s w) k)) (put-of c end k)
       by-file (stop r) k =
           let low = file-stops s .at r k in
-          let n : numberOf (x .outcome) ≡ r = ap (λ (p : ℕ × Question). p .0) (is ∙ ap (posed s w) k) in
+          let n : numberOf (x .ended) ≡ r = ap (λ (p : ℕ × Question). p .0) (is ∙ ap (posed s w) k) in
           absurd (omega (arith, n, ap numberOf o))
 
-  pub stop-says : (f : Fault) → x .outcome ≡ Stop f → contentP s ≡ stop (number f)
+  pub stop-says : (f : Fault) → x .ended ≡ Stop f → contentP s ≡ stop (number f)
   stop-says f o = by-file (fileP s) refl
     where
       by-file : (y : Parsed Card) → fileP s ≡ y → contentP s ≡ stop (number f)
       by-file (got c end) k =
-          let n : numberOf (x .outcome) ≡ 0 = ap (λ (p : ℕ × Question). p .0) (is ∙ ap (posed s w) k) in
+          let n : numberOf (x .ended) ≡ 0 = ap (λ (p : ℕ × Question). p .0) (is ∙ ap (posed s w) k) in
           absurd (fault-some f (sym (ap numberOf o) ∙ n))
       by-file (stop r) k =
-          let n : numberOf (x .outcome) ≡ r = ap (λ (p : ℕ × Question). p .0) (is ∙ ap (posed s w) k) in
+          let n : numberOf (x .ended) ≡ r = ap (λ (p : ℕ × Question). p .0) (is ∙ ap (posed s w) k) in
           content-stops s r k ∙ ap stop (sym n ∙ ap numberOf o)

@@ -43,7 +43,7 @@ fresh-question = record { size = 0; judged = fresh-judged; budget = 0 }
 
 -- the fault's number, 0 for a file that was read, and the question
 abbrev pub posedAs : Posed → ℕ × Question
-posedAs p = (numberOf (p .outcome), p .question)
+posedAs p = (numberOf (p .ended), p .question)
 
 -- what must be told of a file where this was read
 abbrev pub posed : List ℕ → When → Parsed Card → ℕ × Question

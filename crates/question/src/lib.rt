@@ -1,7 +1,7 @@
 // The question of a card file: the file is read, and its certificates are compared and judged once, at a time that is handed in. How the
 // question is answered is left to the crates above.
 use card::Card;
-use card::Outcome;
+use card::Ended;
 use card::read;
 use policy::Judged;
 use policy::judge;
@@ -39,7 +39,7 @@ pub enum When {
 // A file's question; where the file can't be read, why, and a question of nothing.
 pub struct Posed {
     pub question: Question,
-    pub outcome: Outcome,
+    pub ended: Ended,
 }
 
 // The question of a file. Where reading fails, nothing is compared or judged.
@@ -47,18 +47,18 @@ pub fn pose(file: &[u8], when: When) -> Posed
     ensures { λ r. ⌜ posedAs r ≡ posed (now (file .entry)) when (fileP (now (file .entry))) ⌝ }
 {
     let reading = read(file);
-    let outcome = reading.outcome;
-    match outcome {
-        Outcome::Read => {
+    let ended = reading.ended;
+    match ended {
+        Ended::Read => {
             return Posed {
                 question: put(file, when, reading.card),
-                outcome: Outcome::Read,
+                ended: Ended::Read,
             };
         }
-        Outcome::Stop(fault) => {
+        Ended::Stop(fault) => {
             return Posed {
                 question: Question::new(),
-                outcome: Outcome::Stop(fault),
+                ended: Ended::Stop(fault),
             };
         }
     }

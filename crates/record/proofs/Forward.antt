@@ -1,5 +1,5 @@
 -- The flags and a certificate are read from left to right. Assumes nothing.
-use Rattle.fields.proofs.Forward.{Forward, value, told, judged, then}
+use Rattle.fields.proofs.Forward.{Forward, value, at-hand, judged, then}
 use Rattle.fields.proofs.ForwardFields.{byte-forward, string-forward, big-forward, optional-forward, counted-forward}
 use Rattle.names.proofs.Forward.{name-forward}
 use Rattle.lists.specs.Lists.{usagesMost, dnsNamesMost}
@@ -29,4 +29,4 @@ certificate-forward =
     then (optional-forward byte-forward (hasPathLength flags)) (λ pathLength.
     then (counted-forward usage-forward 0 usagesMost) (λ usages.
     then (counted-forward dns-name-forward 0 dnsNamesMost) (λ dnsNames.
-    told _)))))))))))))))
+    at-hand _)))))))))))))))

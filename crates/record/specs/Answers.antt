@@ -19,9 +19,9 @@ use Rattle.record.specs.declared.Record.{Record}
 use Rattle.record.specs.declared.RecordAt.{RecordAt}
 use Rattle.record.specs.declared.RecordAt.the-variants as whole
 
-abbrev pub flagged : FlagsAt → Parsed (ℕ × ℕ)
-flagged (flags.Got v f e) = got (v, f) e
-flagged (flags.Stop f) = stop (number f)
+abbrev pub opened : FlagsAt → Parsed (ℕ × ℕ)
+opened (flags.Got v f e) = got (v, f) e
+opened (flags.Stop f) = stop (number f)
 
 abbrev pub dated : DatesAt → Parsed (ℕ × ℕ)
 dated (dates.Got b a e) = got (b, a) e

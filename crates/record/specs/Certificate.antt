@@ -26,6 +26,28 @@ pub record Certificate : Type 0 where
   pub usages : List ℕ
   pub dns-names : List (List ℕ)
 
+-- a certificate of its parts, in their order
+abbrev pub certificate : ℕ → ℕ → ℕ → ℕ → List ℕ → List ℕ → List ℕ → List (List Attr) → List (List Attr)
+    → Option (List ℕ) → Option (List ℕ) → Option (List ℕ) → Option ℕ → List ℕ → List (List ℕ) → Certificate
+certificate version flags notBefore notAfter serial outer inner issuer subject authorityKeyId authoritySerial subjectKeyId pathLength usages dnsNames =
+    record {
+      version = version;
+      flags = flags;
+      not-before = notBefore;
+      not-after = notAfter;
+      serial = serial;
+      outer = outer;
+      inner = inner;
+      issuer = issuer;
+      subject = subject;
+      authority-key-id = authorityKeyId;
+      authority-serial = authoritySerial;
+      subject-key-id = subjectKeyId;
+      path-length = pathLength;
+      usages = usages;
+      dns-names = dnsNames;
+    }
+
 -- a path length is a CA's, and who may sign says so by its key usage
 unfoldable pub paired : ℕ → Bool
 paired flags = (not (hasPathLength flags) || ca flags) && (not (maySign flags) || hasKeyUsage flags)
@@ -55,22 +77,4 @@ certificateP s at =
     after (optionalP (hasPathLength flags) byteP s l) (λ pathLength m.
     after (countedP 0 usagesMost usageP s m) (λ usages n.
     after (countedP 0 dnsNamesMost dnsNameP s n) (λ dnsNames o.
-    got
-    (record {
-      version = version;
-      flags = flags;
-      not-before = notBefore;
-      not-after = notAfter;
-      serial = serial;
-      outer = outer;
-      inner = inner;
-      issuer = issuer;
-      subject = subject;
-      authority-key-id = authorityKeyId;
-      authority-serial = authoritySerial;
-      subject-key-id = subjectKeyId;
-      path-length = pathLength;
-      usages = usages;
-      dns-names = dnsNames;
-    })
-    o)))))))))))))))
+    got (certificate version flags notBefore notAfter serial outer inner issuer subject authorityKeyId authoritySerial subjectKeyId pathLength usages dnsNames) o)))))))))))))))

@@ -12,7 +12,7 @@ ghost use Rattle.extensions.specs.Flags.{flag};
 ghost use Rattle.fields.specs.Answers.{counted};
 ghost use Rattle.fields.specs.Fields.{got, after};
 ghost use Rattle.record.specs.Record.{openingP, datesP, headP};
-ghost use Rattle.record.specs.Answers.{flagged, dated, headed};
+ghost use Rattle.record.specs.Answers.{opened, dated, headed};
 
 pub struct Head {
     pub version: usize,
@@ -107,7 +107,7 @@ pub(crate) fn flags_past(file: &[u8], at: usize) -> CountAt
 
 // Any version; flags of which a path length's needs a CA's, and that to sign a key usage's, judged when they are read.
 fn flags_at(file: &[u8], at: usize) -> FlagsAt
-    ensures { λ r. ⌜ flagged r ≡ openingP (now (file .entry)) at ⌝ }
+    ensures { λ r. ⌜ opened r ≡ openingP (now (file .entry)) at ⌝ }
 {
     match byte_at(file, at) {
         CountAt::Got {

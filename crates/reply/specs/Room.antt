@@ -11,10 +11,6 @@ use Rattle.order.specs.Slots.{slotsOf}
 use Rattle.order.specs.Waiting.{After}
 use Rattle.reply.specs.Slots.{slotBytes, slotOf}
 
--- the bytes that a full bundle needs, which are always enough
-abbrev pub roomMost : ℕ
-roomMost = slotBytes * slotsOf bundleMost
-
 -- so many bytes have the whole slots that n certificates need; a part slot doesn't count
 unfoldable pub hasRoom : ℕ → ℕ → Bool
 hasRoom n bytes = leb n bundleMost && leb (slotsOf n) (bytes / slotBytes)

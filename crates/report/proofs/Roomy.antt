@@ -26,13 +26,13 @@ use Rattle.order.proofs.Formula.{slots-most}
 use Rattle.reply.specs.declared.Answer.{Answer}
 use Rattle.reply.specs.declared.Reply.the-variants.{Error}
 use Rattle.reply.specs.Answer.{saying, Searched}
-use Rattle.reply.specs.Room.{roomMost, hasRoom}
+use Rattle.reply.specs.Room.{hasRoom}
 use Rattle.reply.specs.Settles.{Reach, Outcome, accepted, refused, exhausted}
 use Rattle.reply.proofs.Faults.{room-few, answered-roomy}
 use Rattle.search.specs.Search.{Search}
 use Rattle.search.proofs.One.{search-one}
 use Rattle.report.specs.Lines.{lineMost, lineOf, lineShown}
-use Rattle.report.specs.Replying.{Replies}
+use Rattle.report.specs.Replying.{roomMost, Replies}
 use Rattle.report.specs.declared.line.Line.{Line}
 
 -- no bundle asks for more

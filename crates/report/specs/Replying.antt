@@ -1,16 +1,22 @@
 -- What is written for a card file. Assumes nothing.
 use mathlib.Core.List.{List}
 use mathlib.Core.Path.{_≡_}
-use Prim.Native.Nat.{ℕ}
+use Prim.Native.Nat.{ℕ, _*_}
 use lib.ListN.{replicate}
 use Rattle.card.specs.Content.{Content}
 use Rattle.fields.specs.Fields.{Parsed}
 use Rattle.reply.specs.declared.Answer.{Answer}
 use Rattle.reply.specs.declared.Reply.the-variants.{Error}
-use Rattle.reply.specs.Room.{roomMost}
+use Rattle.places.specs.Limits.{bundleMost}
+use Rattle.order.specs.Slots.{slotsOf}
+use Rattle.reply.specs.Slots.{slotBytes}
 use Rattle.search.specs.Search.{Search}
 use Rattle.report.specs.Lines.{lineOf, lineShown}
 use Rattle.report.specs.declared.line.Line.{Line}
+
+-- the bytes that a full bundle needs, which are always enough
+abbrev pub roomMost : ℕ
+roomMost = slotBytes * slotsOf bundleMost
 
 -- the line for a file that says x: what the search answers in a room that is always enough
 pub record Replies (x : Parsed Content) (line : Line) : Type 0 where

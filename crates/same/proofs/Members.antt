@@ -7,7 +7,8 @@ use mathlib.Core.List.{List, [], _∷_}
 use native.Mathlib.Omega.{arith}
 use Rattle.fields.specs.Fields.{Parsed, got, stop}
 use Rattle.names.specs.Names.{Attr, attrP}
-use Rattle.same.specs.Same.{sameAttr, rdnHasName}
+use Rattle.same.specs.Same.{sameAttr}
+use Rattle.same.specs.Matching.{rdnHasName}
 use Rattle.same.specs.Rows.{with-rest, standing, hasRead}
 use Rattle.same.specs.Walks.{walk}
 use Rattle.same.specs.declared.walk.Walk.the-variants.{On, Differ}

@@ -1,4 +1,5 @@
 pub mod Same
+pub mod Matching
 pub mod Answers
 pub mod Rows
 pub mod Walks

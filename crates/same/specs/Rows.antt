@@ -5,7 +5,7 @@ use mathlib.Core.Bool.{Bool, false}
 use mathlib.Core.List.{List, [], _∷_}
 use Rattle.fields.specs.Fields.{Parsed, got, stop}
 use Rattle.names.specs.Names.{Attr}
-use Rattle.same.specs.Same.{rdnHasName}
+use Rattle.same.specs.Matching.{rdnHasName}
 
 -- the thing can be read
 abbrev pub Fine : {A : Type 0} → Parsed A → Type 0

@@ -4,7 +4,6 @@ use mathlib.Core.Bool.{Bool, true, false, cond, _&&_}
 use mathlib.Core.List.{List, [], _∷_}
 use lib.ListN.{length}
 use lib.Dec.{eqb}
-use Rattle.text.specs.Each.{any, all}
 use Rattle.text.specs.Bytes.{same}
 use Rattle.text.specs.Normal.{normal}
 use Rattle.names.specs.Names.{Attr}
@@ -18,14 +17,6 @@ places q (x ∷ l) (y ∷ m) = q x y && places q l m
 -- equal OID, and equal value, normalised when the flag says so
 unfoldable pub sameAttr : Bool → Attr → Attr → Bool
 sameAttr normalise a b = same (a .oid) (b .oid) && cond normalise (same (normal (a .value)) (normal (b .value))) (same (a .value) (b .value))
-
--- some attribute of the RDN is the same as this one
-unfoldable pub rdnHasName : Bool → List Attr → Attr → Bool
-rdnHasName normalise rdn name = any (λ a. sameAttr normalise a name) rdn
-
--- each attribute of the first has a match in the second
-abbrev pub matched : Bool → List Attr → List Attr → Bool
-matched normalise a b = all (rdnHasName normalise b) a
 
 -- as many attributes, the same place by place
 unfoldable pub sameRdn : Bool → List Attr → List Attr → Bool

@@ -10,7 +10,7 @@ use names::rdn_at;
 use names::rdn_begins;
 ghost use mathlib.Core.Path.{_≡_};
 ghost use Rattle.names.specs.Names.{attrP, rdnP};
-ghost use Rattle.same.specs.Same.{matched};
+ghost use Rattle.same.specs.Matching.{matched};
 ghost use Rattle.same.specs.Rows.{standing, hasRead};
 ghost use Rattle.same.specs.Walks.{walk};
 

@@ -7,7 +7,7 @@ use lib.ListN.{length}
 use Rattle.fields.specs.Fields.{got}
 use Rattle.card.specs.Card.{fileP}
 use Rattle.card.specs.Content.{Content, contentP}
-use Rattle.card.specs.declared.Outcome.the-variants.{Read}
+use Rattle.card.specs.declared.Ended.the-variants.{Read}
 use Rattle.order.specs.Paths.{Places}
 use Rattle.reply.specs.declared.Answer.{Answer}
 use Rattle.reply.specs.Answer.{Paused, Searched, caseOf, Answered}
@@ -47,7 +47,7 @@ module _ (s : List ℕ) (w : When) (x : Posed) (is : posedAs x ≡ posed s w (fi
         let n : q .size ≡ length (c .bundle) = ap (λ g. g .size) same in
         rw (says, ← n) (answered-over (q .size) (length before) q P before after a c Q f h)
 
-    pub searched : x .outcome ≡ Read
+    pub searched : x .ended ≡ Read
         → Answered (λ y. Searched (placesOf y) (rootsOf y) (y .budget) before after a) (caseOf q (q .size) (length before)) before after a
         → Answered (λ c. Searched (placesIn c) (rootsIn c (time c)) (c .budget) before after a) (caseIn (contentP s) (length before)) before after a
     searched o =
@@ -57,7 +57,7 @@ module _ (s : List ℕ) (w : When) (x : Posed) (is : posedAs x ≡ posed s w (fi
         (λ c. Searched (placesIn c) (rootsIn c (time c)) (c .budget) before after a)
         (λ h. same-search (k .places) (k .budget) (searched-agree (k .roots) (k .reached) h))
 
-    pub held-paused : x .outcome ≡ Read → (k : ℕ)
+    pub held-paused : x .ended ≡ Read → (k : ℕ)
         → Answered (λ y. Paused (placesOf y) (rootsOf y) k before after a) (caseOf q (q .size) (length before)) before after a
         → Answered (λ c. Paused (placesIn c) (rootsIn c (time c)) k before after a) (caseIn (contentP s) (length before)) before after a
     held-paused o k =

@@ -1,6 +1,6 @@
 // The checker: finds the first path of a card file that reaches a root under the policy, in lent room. Every file, budget and room gets an
 // answer.
-use card::Outcome;
+use card::Ended;
 use question::When;
 use question::pose;
 use reply::Answer;
@@ -12,12 +12,12 @@ pub fn search(file: &[u8], room: &mut [u8]) -> Answer
     ensures { λ r. ⌜ Search (contentP (now (file .entry))) (now (room .entry)) (now (room .exit)) r ⌝ }
 {
     let posed = pose(file, When::Own);
-    let outcome = posed.outcome;
-    match outcome {
-        Outcome::Read => {
+    let ended = posed.ended;
+    match ended {
+        Ended::Read => {
             return steps::search(room, posed.question);
         }
-        Outcome::Stop(fault) => {
+        Ended::Stop(fault) => {
             return Answer::stopped(fault.number());
         }
     }
@@ -28,12 +28,12 @@ pub fn paused(file: &[u8], k: u64, room: &mut [u8]) -> Answer
     ensures { λ r. ⌜ Pause (contentP (now (file .entry))) k (now (room .entry)) (now (room .exit)) r ⌝ }
 {
     let posed = pose(file, When::Own);
-    let outcome = posed.outcome;
-    match outcome {
-        Outcome::Read => {
+    let ended = posed.ended;
+    match ended {
+        Ended::Read => {
             return steps::paused(room, posed.question, k);
         }
-        Outcome::Stop(fault) => {
+        Ended::Stop(fault) => {
             return Answer::stopped(fault.number());
         }
     }

@@ -7,7 +7,7 @@ use native.Mathlib.Omega.{arith}
 use Rattle.fields.specs.Fields.{Parsed, got, stop, countP, countedP, whole}
 use Rattle.names.specs.Names.{attrP, rdnP, rdnMost}
 use Rattle.names.proofs.Judged.{Holds}
-use Rattle.same.specs.Same.{rdnHasName}
+use Rattle.same.specs.Matching.{rdnHasName}
 use Rattle.same.specs.Answers.{asked, bothRead}
 use Rattle.same.specs.Rows.{Fine, standing, hasRead}
 use Rattle.same.proofs.Rows.{row-read}

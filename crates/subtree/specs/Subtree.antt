@@ -4,7 +4,8 @@ use mathlib.Core.List.{List}
 use lib.ListN.{length}
 use lib.Dec.{leb}
 use Rattle.names.specs.Names.{Attr}
-use Rattle.same.specs.Same.{places, matched}
+use Rattle.same.specs.Same.{places}
+use Rattle.same.specs.Matching.{matched}
 
 -- no more attributes, and the second has each of the first's
 unfoldable pub isSubtreeRdn : Bool → List Attr → List Attr → Bool

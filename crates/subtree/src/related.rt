@@ -13,7 +13,7 @@ use same::has_name;
 ghost use mathlib.Core.Path.{_≡_};
 ghost use Rattle.fields.specs.Fields.{whole};
 ghost use Rattle.names.specs.Names.{attrP, rdnP, nameP};
-ghost use Rattle.same.specs.Same.{rdnHasName};
+ghost use Rattle.same.specs.Matching.{rdnHasName};
 ghost use Rattle.same.specs.Answers.{said, asked};
 ghost use Rattle.subtree.specs.Subtree.{isSubtreeRdn, isSubtreeOf};
 

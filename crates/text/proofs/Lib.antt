@@ -5,7 +5,7 @@ pub mod NormalFrom
 pub mod Form
 pub mod Label
 pub mod Star
-pub mod Told
+pub mod Learnt
 pub mod Pinned
 pub mod Each
 pub mod Upstream

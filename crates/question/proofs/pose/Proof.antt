@@ -19,8 +19,8 @@ returns c =
     let r = u .before .before .read in
     posed-read _ _ (r .result) (r .ensures) (u .enum-told .given .1) (c .put .ensures)
 
-enum-known-outcome : tie.Need-enum-known-outcome
-enum-known-outcome c = search needs
+enum-known-ended : tie.Need-enum-known-ended
+enum-known-ended c = search needs
 
 new-requires : tie.Need-new-requires
 new-requires c κs = search needs
@@ -29,7 +29,7 @@ returns-2 : tie.Need-returns-2
 returns-2 c =
     let o = c .before .before in
     let r = o .before .before .read in
-    posed-stopped _ _ (r .result) (r .ensures) (o .outcome .given .1) (c .new .ensures)
+    posed-stopped _ _ (r .result) (r .ensures) (o .ended .given .1) (c .new .ensures)
 
 pub pose-spec : {M : Type 1} → statement M
 pose-spec =
@@ -39,6 +39,6 @@ pose-spec =
     enum-told
     put-requires
     returns
-    enum-known-outcome
+    enum-known-ended
     new-requires
     returns-2)

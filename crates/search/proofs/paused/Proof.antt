@@ -26,8 +26,8 @@ returns c =
     let a = u .before .before .before .before .before .args in
     held-paused _ _ (p .result) (p .ensures) (a .room .now) (r .paused .last .0) (r .paused .result) (u .enum-told .given .1) (a .k) (r .paused .ensures)
 
-enum-known-outcome : tie.Need-enum-known-outcome
-enum-known-outcome c = search needs
+enum-known-ended : tie.Need-enum-known-ended
+enum-known-ended c = search needs
 
 number-requires : tie.Need-number-requires
 number-requires c κs = search needs
@@ -40,7 +40,7 @@ returns-2 c =
     let n = c .before in
     let o = n .before .before in
     let p = o .before .before .pose in
-    rw (stop-says _ _ (p .result) (p .ensures) _ (o .outcome .given .1)) (stopped (n .number .ensures) (c .stopped .ensures .0) (c .stopped .ensures .1))
+    rw (stop-says _ _ (p .result) (p .ensures) _ (o .ended .given .1)) (stopped (n .number .ensures) (c .stopped .ensures .0) (c .stopped .ensures .1))
 
 pub paused-spec : {M : Type 1} → statement M
 paused-spec =
@@ -51,7 +51,7 @@ paused-spec =
     paused-requires
     same-length
     returns
-    enum-known-outcome
+    enum-known-ended
     number-requires
     stopped-requires
     returns-2)

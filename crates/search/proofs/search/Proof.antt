@@ -26,8 +26,8 @@ returns c =
     let a = u .before .before .before .before .before .args in
     searched _ _ (p .result) (p .ensures) (a .room .now) (r .search .last .0) (r .search .result) (u .enum-told .given .1) (r .search .ensures)
 
-enum-known-outcome : tie.Need-enum-known-outcome
-enum-known-outcome c = search needs
+enum-known-ended : tie.Need-enum-known-ended
+enum-known-ended c = search needs
 
 number-requires : tie.Need-number-requires
 number-requires c κs = search needs
@@ -40,7 +40,7 @@ returns-2 c =
     let n = c .before in
     let o = n .before .before in
     let p = o .before .before .pose in
-    rw (stop-says _ _ (p .result) (p .ensures) _ (o .outcome .given .1)) (stopped (n .number .ensures) (c .stopped .ensures .0) (c .stopped .ensures .1))
+    rw (stop-says _ _ (p .result) (p .ensures) _ (o .ended .given .1)) (stopped (n .number .ensures) (c .stopped .ensures .0) (c .stopped .ensures .1))
 
 pub search-spec : {M : Type 1} → statement M
 search-spec =
@@ -51,7 +51,7 @@ search-spec =
     search-requires
     same-length
     returns
-    enum-known-outcome
+    enum-known-ended
     number-requires
     stopped-requires
     returns-2)

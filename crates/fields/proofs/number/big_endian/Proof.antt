@@ -14,7 +14,7 @@ use Rattle.fields.proofs.number.big_endian.Statement.{statement}
 use Rattle.fields.proofs.number.big_endian.Tie as tie
 
 abbrev Inv-loop : tie.InvT-loop
-Inv-loop bytes value₀ i₀ value i = (i ≤ length bytes) × (value ≡ bigEndian (take i bytes)) × (value < 2 ^ (8 * i))
+Inv-loop bytes value₀ i₀ value i = (i ≤ length bytes) × (value ≡ bigEndian 0 (take i bytes)) × (value < 2 ^ (8 * i))
 
 abbrev μ-loop : tie.MeasureT-loop
 μ-loop bytes value₀ i₀ value i = length bytes - i

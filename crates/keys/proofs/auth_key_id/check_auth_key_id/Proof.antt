@@ -5,7 +5,8 @@ use mathlib.Core.Logic.{⊎-elim}
 use denote.Ref.{now}
 use borrow.Author.Tests.{not-true, not-false}
 use borrow.Author.Needs.{needs}
-use Rattle.keys.specs.AuthKeyId.{given, agree}
+use Rattle.keys.specs.AuthKeyId.{agree}
+use Rattle.keys.specs.Given.{given}
 use Rattle.keys.proofs.Fits.{both-given, first-absent, second-absent, unlike, alike}
 use Rattle.keys.proofs.auth_key_id.check_auth_key_id.Statement.{statement}
 use Rattle.keys.proofs.auth_key_id.check_auth_key_id.Tie as tie

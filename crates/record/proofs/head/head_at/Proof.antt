@@ -1,7 +1,7 @@
 -- `head_at` answers version and flags and then the dates, or the first fault. Assumes nothing.
 use mathlib.Core.Path.{sym, ap, _∙_}
 use Rattle.record.specs.Record.{headP}
-use Rattle.record.specs.Answers.{flagged, dated}
+use Rattle.record.specs.Answers.{opened, dated}
 use borrow.Author.Needs.{needs}
 use Rattle.record.proofs.head.head_at.Statement.{statement}
 use Rattle.record.proofs.head.head_at.Tie as tie
@@ -23,7 +23,7 @@ unfolding headP
 returns c =
     let t = c .before .before .before in
     let v = t .before .before in
-    rw (sym (v .before .before .flags-at .ensures) ∙ ap flagged (v .version .given .1), sym (t .dates-at .ensures) ∙ ap dated (c .before .not-before .given .1))
+    rw (sym (v .before .before .flags-at .ensures) ∙ ap opened (v .version .given .1), sym (t .dates-at .ensures) ∙ ap dated (c .before .not-before .given .1))
 
 enum-known-fault : tie.Need-enum-known-fault
 enum-known-fault c = search needs
@@ -33,14 +33,14 @@ unfolding headP
 returns-2 c =
     let t = c .before .before .before in
     let v = t .before .before in
-    rw (sym (v .before .before .flags-at .ensures) ∙ ap flagged (v .version .given .1), sym (t .dates-at .ensures) ∙ ap dated (c .before .fault .given .1))
+    rw (sym (v .before .before .flags-at .ensures) ∙ ap opened (v .version .given .1), sym (t .dates-at .ensures) ∙ ap dated (c .before .fault .given .1))
 
 enum-known-fault-2 : tie.Need-enum-known-fault-2
 enum-known-fault-2 c = search needs
 
 returns-3 : tie.Need-returns-3
 unfolding headP
-returns-3 c = rw (sym (c .before .before .before .flags-at .ensures) ∙ ap flagged (c .before .fault2 .given .1))
+returns-3 c = rw (sym (c .before .before .before .flags-at .ensures) ∙ ap opened (c .before .fault2 .given .1))
 
 pub head-at-spec : {M : Type 1} → statement M
 head-at-spec =

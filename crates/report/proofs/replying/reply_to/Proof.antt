@@ -2,7 +2,7 @@
 use borrow.Author.Needs.{needs}
 use Prim.Native.Nat.{ℕ}
 use lib.ListN.{replicate, length-replicate}
-use Rattle.reply.specs.Room.{roomMost}
+use Rattle.report.specs.Replying.{roomMost}
 use Rattle.report.specs.Lines.{lineOf}
 use Rattle.report.proofs.Roomy.{never-ten, shown-counts}
 use Rattle.report.proofs.replying.reply_to.Statement.{statement}

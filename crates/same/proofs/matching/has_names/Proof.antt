@@ -4,7 +4,7 @@ use mathlib.Core.Path.{_≡_, refl, sym, _∙_}
 use borrow.Author.Needs.{needs}
 use borrow.Author.Tests.{not-true, not-false}
 use Rattle.names.specs.Names.{attrP}
-use Rattle.same.specs.Same.{matched}
+use Rattle.same.specs.Matching.{matched}
 use Rattle.same.specs.Rows.{standing}
 use Rattle.names.proofs.Attributes.{attr-read, attr-stops}
 use Rattle.same.proofs.Members.{has-read}

@@ -5,7 +5,7 @@ use Rattle.fields.specs.Answers.{passed}
 use Rattle.fields.proofs.Ends.{passing-stops}
 use Rattle.names.specs.Names.{rdnP}
 use Rattle.names.specs.Answers.{rdnBegun}
-use Rattle.same.specs.Same.{matched}
+use Rattle.same.specs.Matching.{matched}
 use Rattle.same.proofs.Walks.{stop-right, no-count-left, no-count-right}
 use Rattle.same.proofs.Rows.{rdn-row, standing-judged}
 use borrow.Author.Needs.{needs}

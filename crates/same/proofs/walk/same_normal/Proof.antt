@@ -2,7 +2,7 @@
 use native.Mathlib.Omega.{arith}
 use mathlib.Core.Path.{_∙_}
 use lib.ListN.{length-take}
-use Rattle.text.proofs.Told.{told, roomy}
+use Rattle.text.proofs.Learnt.{learnt, roomy}
 use borrow.Author.Needs.{needs}
 use Rattle.same.proofs.walk.same_normal.Statement.{statement}
 use Rattle.same.proofs.walk.same_normal.Tie as tie
@@ -45,7 +45,7 @@ array-share-prefix-x : tie.Need-array-share-prefix-x
 array-share-prefix-x c =
     let n = c .before .before .before .before .before .before .before in
     let x = n .before .before .before .normalize-string .ensures in
-    told _ _ _ _ _ (x .0) (x .1) (n .n .given .1) .within
+    learnt _ _ _ _ _ (x .0) (x .1) (n .n .given .1) .within
 
 slice-aggregate-equal : tie.Need-slice-aggregate-equal
 slice-aggregate-equal c = simp length-take (omega (arith, array-share-prefix-x (c .before)))
@@ -54,7 +54,7 @@ array-share-prefix-y : tie.Need-array-share-prefix-y
 array-share-prefix-y c =
     let m = c .before .before in
     let y = m .before .before .before .normalize-string2 .ensures in
-    told _ _ _ _ _ (y .0) (y .1) (m .m .given .1) .within
+    learnt _ _ _ _ _ (y .0) (y .1) (m .m .given .1) .within
 
 slice-aggregate-equal-2 : tie.Need-slice-aggregate-equal-2
 slice-aggregate-equal-2 c = simp length-take (omega (arith, array-share-prefix-y (c .before)))
@@ -68,7 +68,7 @@ returns-3 c =
     let y = m .before .before .before .normalize-string2 .ensures in
     let n = m .before .before .before .before .before .before in
     let x = n .before .before .before .normalize-string .ensures in
-    c .equal .ensures ∙ rw (told _ _ _ _ _ (x .0) (x .1) (n .n .given .1) .whole, told _ _ _ _ _ (y .0) (y .1) (m .m .given .1) .whole)
+    c .equal .ensures ∙ rw (learnt _ _ _ _ _ (x .0) (x .1) (n .n .given .1) .whole, learnt _ _ _ _ _ (y .0) (y .1) (m .m .given .1) .whole)
 
 pub same-normal-spec : {M : Type 1} → statement M
 same-normal-spec =

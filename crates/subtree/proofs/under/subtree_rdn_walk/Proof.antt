@@ -4,7 +4,7 @@ use lib.Dec.{leb}
 use borrow.Author.Tests.{le-leb, lt-leb}
 use Rattle.names.specs.Names.{attrP, rdnP}
 use Rattle.names.specs.Answers.{rdnBegun}
-use Rattle.same.specs.Same.{matched}
+use Rattle.same.specs.Matching.{matched}
 use Rattle.same.proofs.Walks.{counted-passes, counted-fails, no-count-left, no-count-right}
 use Rattle.subtree.specs.Subtree.{isSubtreeRdn}
 use borrow.Author.Needs.{needs}

@@ -15,24 +15,24 @@ use Rattle.text.specs.declared.normal.Normalized.{Normalized}
 use Rattle.text.specs.declared.normal.Normalized.the-variants.{Length, NoRoom}
 
 module _ (s out₀ out : List ℕ) (n : ℕ) where
-  pub record Told : Type 0 where
+  pub record Learnt : Type 0 where
     pub whole : take n out ≡ normal s
     pub within : n ≤ length out
 
-  told-by : (t : Bool) → formOf (Length n) ≡ cond t (record { number = 10; bytes = 0 }) (record { number = 0; bytes = length (normal s) })
+  learnt-by : (t : Bool) → formOf (Length n) ≡ cond t (record { number = 10; bytes = 0 }) (record { number = 0; bytes = length (normal s) })
       → out ≡ cond t out₀ (normal s ++ drop (length (normal s)) out₀)
-      → Told
-  told-by true e o = let z : _≡_ {A = ℕ} 0 10 = ap (λ r. r .number) e in absurd (omega arith)
-  told-by false e o =
+      → Learnt
+  learnt-by true e o = let z : _≡_ {A = ℕ} 0 10 = ap (λ r. r .number) e in absurd (omega arith)
+  learnt-by false e o =
       let k : n ≡ length (normal s) = ap (λ r. r .bytes) e in
       record {
         whole = rw (o, k) (take-append-seam _ _);
         within = omega (arith, simp length-append at (ap length o));
       }
 
-  pub told : (r : Normalized) → formOf r ≡ normalized s out₀ → out ≡ written s out₀ → r ≡ Length n → Told
+  pub learnt : (r : Normalized) → formOf r ≡ normalized s out₀ → out ≡ written s out₀ → r ≡ Length n → Learnt
   unfolding normalized written
-  told r p o e = told-by (ltb (length out₀) (length s)) (ap formOf (sym e) ∙ p) o
+  learnt r p o e = learnt-by (ltb (length out₀) (length s)) (ap formOf (sym e) ∙ p) o
 
 pub roomy : (s out₀ : List ℕ) (r : Normalized) → formOf r ≡ normalized s out₀ → length s ≤ length out₀ → r ≡ NoRoom → ⊥
 unfolding normalized
