@@ -1,5 +1,4 @@
 pub mod Agree
-pub mod Examples
 pub mod Exists
 pub mod Faults
 pub mod Laid
