@@ -31,7 +31,7 @@ module _ {g : Places} {w v : Reach}
 
     module _ {k : ℕ} {a : Answer} where
       tells-agree : {o : Outcome} → Tells g w k a o → Tells g v k a o
-      tells-agree {o} x = record { settled = settles-agree k o (x .settled); says = x .says; shows = x .shows }
+      tells-agree {o} x = record { settled = settles-agree k o (x .settled); says = x .says }
 
       pub paused-agree : {before after : List ℕ} → Paused g w k before after a → Paused g v k before after a
       paused-agree x = record { outcome = x .outcome; tells = tells-agree (x .tells); holds = x .holds }

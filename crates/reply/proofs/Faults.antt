@@ -15,6 +15,7 @@ use Rattle.reply.specs.Answer.{pathShown, Stops, empty, cramped, runs, c
 use Rattle.reply.specs.Numbers.{faultOf}
 use Rattle.reply.specs.Room.{hasRoom}
 use Rattle.reply.specs.Slots.{slotBytes}
+use Rattle.reply.proofs.Says.{answer-one}
 
 -- nothing stands in the way
 pub record Clear (n bytes : ℕ) : Type 0 where
@@ -24,7 +25,7 @@ pub record Clear (n bytes : ℕ) : Type 0 where
 
 -- what `Answer::stopped` answers, where nothing is written
 pub stopped : {before : List ℕ} {a : Answer} {n e : ℕ} → n ≡ e → a .reply ≡ Error n → a .path ≡ pathShown [] → Stops e before before a
-stopped h says shows = record { says = says ∙ ap Error h; shows = shows; kept = refl }
+stopped {a = a} {e = e} h says shows = record { says = answer-one a (record { reply = Error e; path = pathShown [] }) (says ∙ ap Error h) shows; kept = refl }
 
 module _ (n b : ℕ) where
   pub room-few : n ≤ bundleMost → hasRoom n b ≡ leb (slotsOf n) (b / slotBytes)

@@ -12,7 +12,8 @@ use lib.ListN.{length, take, drop, getD, set, replicate}
 use lib.Seq.{length-take-le, take-all}
 use Rattle.places.specs.Limits.{bundleMost}
 use Rattle.places.specs.declared.BundlePlace.{BundlePlace}
-use Rattle.reply.specs.Answer.{placed, pathShown}
+use Rattle.reply.specs.Answer.{pathShown}
+use Rattle.reply.specs.Numbers.{placed}
 use Rattle.reply.specs.Slots.{padded}
 
 place-suc : (src : List ℕ) (dst : List BundlePlace) (i : ℕ) → i < length src → i < length dst

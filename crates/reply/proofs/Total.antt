@@ -12,7 +12,7 @@ use Rattle.order.proofs.Bound.{after-fits}
 use Rattle.order.proofs.Waiting.{stack-after}
 use Rattle.reply.specs.declared.Answer.{Answer}
 use Rattle.reply.specs.declared.Reply.the-variants as reply
-use Rattle.reply.specs.Answer.{saying, shown, pathShown, Tells, Paused, Searched, Stops, Case, unread, empty, cramped, runs, caseOf, Answered}
+use Rattle.reply.specs.Answer.{answering, pathShown, Tells, Paused, Searched, Stops, Case, unread, empty, cramped, runs, caseOf, Answered}
 use Rattle.reply.specs.Laid.{holding}
 use Rattle.reply.specs.Settles.{Reach, Outcome, steps}
 use Rattle.reply.proofs.Exists.{found, settles}
@@ -31,25 +31,22 @@ abbrev without : ℕ → Answer
 without e = record { reply = reply.Error e; path = pathShown [] }
 
 pub stops-some : (e : ℕ) (before : List ℕ) → Some (λ after a. Stops e before after a)
-stops-some e before = record { after = before; answer = without e; is = record { says = refl; shows = refl; kept = refl } }
+stops-some e before = record { after = before; answer = without e; is = record { says = refl; kept = refl } }
 
 -- ---- where nothing does
-
-abbrev answerOf : Outcome → Answer
-answerOf o = record { reply = saying o; path = pathShown (shown o) }
 
 module _ (g : Places) (w : Reach) (k : ℕ) (before : List ℕ) (some : 0 < g .size) (few : g .size ≤ bundleMost) where
   abbrev o : Outcome
   o = found g w k
 
-  found-tells : Tells g w k (answerOf o) o
-  found-tells = record { settled = settles g w k some; says = refl; shows = refl }
+  found-tells : Tells g w k (answering o) o
+  found-tells = record { settled = settles g w k some; says = refl }
 
   searched-some : Some (λ after a. Searched g w k before after a)
   searched-some =
       record {
         after = holding (g .size) [] before;
-        answer = answerOf o;
+        answer = answering o;
         is = record { outcome = o; tells = found-tells; clear = laid-holding (g .size) [] zero-le (λ p m. absurd (List·Memᴰ·not-nil m)) refl };
       }
 
@@ -60,7 +57,7 @@ module _ (g : Places) (w : Reach) (k : ℕ) (before : List ℕ) (some : 0 < g .s
       let fits : length ws ≤ slotsOf (g .size) = after-fits g few x in
       record {
         after = holding (g .size) ws before;
-        answer = answerOf o;
+        answer = answering o;
         is =
             record {
               outcome = o;

@@ -2,7 +2,7 @@
 -- paused run and a search must answer and leave is one answer and one room (`paused-one`, `search-one`). Assumes nothing.
 use mathlib.Core.List.{List, []}
 use mathlib.Core.Logic.{⊎-elim}
-use mathlib.Core.Path.{_≡_, sym, ap, ap₂, _∙_}
+use mathlib.Core.Path.{_≡_, sym, ap, _∙_}
 use Prim.Native.Nat.{ℕ, _≤_, zero-le}
 use native.Mathlib.Nat.{le-antisymm}
 use native.Mathlib.Omega.{arith}
@@ -10,10 +10,8 @@ use Rattle.order.specs.Paths.{Places, Count}
 use Rattle.order.proofs.Order.{same-or-before}
 use Rattle.order.proofs.Rank.{rank-unique, count-unique}
 use Rattle.order.proofs.Waiting.{after-unique}
-use Rattle.reply.specs.declared.Reply.{Reply}
-use Rattle.reply.specs.declared.path.Path.{Path}
 use Rattle.reply.specs.declared.Answer.{Answer}
-use Rattle.reply.specs.Answer.{saying, shown, pathShown, Tells, Paused, Searched, Stops, Case, unread, empty, cramped, runs, Answered}
+use Rattle.reply.specs.Answer.{answering, Tells, Paused, Searched, Stops, Case, unread, empty, cramped, runs, Answered}
 use Rattle.reply.specs.Laid.{holding}
 use Rattle.reply.specs.Settles.{Reach, Accepted, Outcome, accepted, refused, exhausted, Settles}
 use Rattle.reply.proofs.Laid.{holding-laid}
@@ -52,14 +50,11 @@ pub record Same (a b : Answer) (after later : List ℕ) : Type 0 where
   pub answer : a ≡ b
   pub room : after ≡ later
 
-answer-one : (a b : Answer) → a .reply ≡ b .reply → a .path ≡ b .path → a ≡ b
-answer-one a b e f = ap₂ (λ (r : Reply) (p : Path). record { reply = r; path = p }) e f
-
 module _ {g : Places} {w : Reach} {k : ℕ} {a b : Answer} where
   told-unique : {o u : Outcome} → Tells g w k a o → Tells g w k b u → (o ≡ u) × (a ≡ b)
   told-unique {o} {u} x y =
       let e : o ≡ u = settles-unique g w k o u (x .settled) (y .settled) in
-      (e, answer-one a b (x .says ∙ ap saying e ∙ sym (y .says)) (x .shows ∙ ap (λ v. pathShown (shown v)) e ∙ sym (y .shows)))
+      (e, x .says ∙ ap answering e ∙ sym (y .says))
 
   paused-unique : {before after later : List ℕ} → Paused g w k before after a → Paused g w k before later b → Same a b after later
   paused-unique {before} x y =
@@ -80,7 +75,7 @@ module _ {g : Places} {w : Reach} {k : ℕ} {a b : Answer} where
 module _ (before after later : List ℕ) (a b : Answer) where
   stops-unique : {e : ℕ} → Stops e before after a → Stops e before later b → Same a b after later
   stops-unique x y =
-      record { answer = answer-one a b (x .says ∙ sym (y .says)) (x .shows ∙ sym (y .shows)); room = x .kept ∙ sym (y .kept) }
+      record { answer = x .says ∙ sym (y .says); room = x .kept ∙ sym (y .kept) }
 
   answered-unique : {A : Type 0} (P Q : A → Type 0) → ((x : A) → P x → Q x → Same a b after later)
       → (c : Case A) → Answered P c before after a → Answered Q c before later b → Same a b after later

@@ -5,40 +5,28 @@ use mathlib.Core.Path.{_≡_}
 use Prim.Native.Nat.{ℕ}
 use lib.Dec.{ltb}
 use lib.ListN.{length}
-use Rattle.places.specs.declared.BundlePlace.{BundlePlace}
 use Rattle.order.specs.Paths.{Places}
 use Rattle.reply.specs.Slots.{padded}
 use Rattle.reply.specs.Settles.{Reach, Outcome, accepted, refused, exhausted, Settles, steps}
 use Rattle.reply.specs.Room.{hasRoom, Holding, Holds}
-use Rattle.reply.specs.declared.Reply.{Reply}
 use Rattle.reply.specs.declared.Reply.the-variants as reply
 use Rattle.reply.specs.declared.path.Path.{Path}
 use Rattle.reply.specs.declared.Answer.{Answer}
 
--- an outcome's reply, and the path beside it
-abbrev pub saying : Outcome → Reply
-saying (accepted p r s) = reply.Accepted (record { 0 = r }) s
-saying (refused s) = reply.Refused s
-saying (exhausted s) = reply.Exhausted s
-
-abbrev pub shown : Outcome → List ℕ
-shown (accepted p r s) = p
-shown (refused s) = []
-shown (exhausted s) = []
-
--- a place of the bundle, by its number
-abbrev pub placed : ℕ → BundlePlace
-placed i = record { 0 = i }
-
 -- a path as it is handed out: its length and its places, 0 past them
 unfoldable pub pathShown : List ℕ → Path
-pathShown p = record { length = length p; places = map placed (padded p) }
+pathShown p = record { length = length p; places = map (λ i. record { 0 = i }) (padded p) }
+
+-- what is answered for an outcome: the reply, and the path beside it
+abbrev pub answering : Outcome → Answer
+answering (accepted p r s) = record { reply = reply.Accepted (record { 0 = r }) s; path = pathShown p }
+answering (refused s) = record { reply = reply.Refused s; path = pathShown [] }
+answering (exhausted s) = record { reply = reply.Exhausted s; path = pathShown [] }
 
 -- the answer tells the outcome o, which settles the search
 pub record Tells (g : Places) (w : Reach) (k : ℕ) (a : Answer) (o : Outcome) : Type 0 where
   pub settled : Settles g w k o
-  pub says : a .reply ≡ saying o
-  pub shows : a .path ≡ pathShown (shown o)
+  pub says : a ≡ answering o
 
 -- the paused run leaves what waits in the room
 pub record Paused (g : Places) (w : Reach) (k : ℕ) (before after : List ℕ) (a : Answer) : Type 0 where
@@ -54,8 +42,7 @@ pub record Searched (g : Places) (w : Reach) (k : ℕ) (before after : List ℕ)
 
 -- there is no search: the reply is the error e, and nothing is written
 pub record Stops (e : ℕ) (before after : List ℕ) (a : Answer) : Type 0 where
-  pub says : a .reply ≡ reply.Error e
-  pub shows : a .path ≡ pathShown []
+  pub says : a ≡ record { reply = reply.Error e; path = pathShown [] }
   pub kept : after ≡ before
 
 -- what a search comes to before it begins: the file can't be read, and the number of its fault; there is no certificate; there is too

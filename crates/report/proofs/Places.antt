@@ -6,7 +6,7 @@ use native.Mathlib.Numerals.{add-one}
 use lib.ListN.{length, take, getD}
 use lib.Seq.{take-suc}
 use Rattle.places.specs.declared.BundlePlace.{BundlePlace}
-use Rattle.reply.specs.Answer.{placed}
+use Rattle.reply.specs.Numbers.{placed}
 use Rattle.report.specs.Lines.{spaced, numberOf}
 use Rattle.report.specs.Text.{ascii, decimal}
 

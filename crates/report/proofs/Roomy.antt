@@ -25,10 +25,12 @@ use Rattle.order.specs.Slots.{slotsOf}
 use Rattle.order.proofs.Formula.{slots-most}
 use Rattle.reply.specs.declared.Answer.{Answer}
 use Rattle.reply.specs.declared.Reply.the-variants.{Error}
-use Rattle.reply.specs.Answer.{saying, Searched}
+use Rattle.reply.specs.Answer.{Searched}
+use Rattle.reply.specs.Numbers.{saying}
 use Rattle.reply.specs.Room.{hasRoom}
 use Rattle.reply.specs.Settles.{Reach, Outcome, accepted, refused, exhausted}
 use Rattle.reply.proofs.Faults.{room-few, answered-roomy}
+use Rattle.reply.proofs.Says.{tells-reply, stops-reply}
 use Rattle.search.specs.Search.{Search}
 use Rattle.search.proofs.One.{search-one}
 use Rattle.report.specs.Lines.{lineMost, lineOf, lineShown}
@@ -41,7 +43,7 @@ enough n h = room-few n roomMost h ∙ le-leb (slotsOf n) (slotsOf bundleMost) (
 
 module _ (a : Answer) (ten : a .reply ≡ Error 10) where
   searched-other : {g : Places} {w : Reach} {k : ℕ} {before after : List ℕ} → Searched g w k before after a → ⊥
-  searched-other x = by-outcome (x .outcome) (x .tells .says)
+  searched-other x = by-outcome (x .outcome) (tells-reply (x .tells))
     where
       by-outcome : (o : Outcome) → a .reply ≡ saying o → ⊥
       by-outcome (accepted p r s) e = let z : _≡_ {A = ℕ} 0 1 = cc in omega arith
@@ -57,9 +59,9 @@ module _ (a : Answer) (ten : a .reply ≡ Error 10) where
       by-file : (y : Parsed Card) → fileP s ≡ y → ⊥
       by-file (got c e) k =
           let few : length (contentOf c s .bundle) ≤ bundleMost = bundle-few s c e (card-read s c e k) in
-          ⊎-elim (λ z. omega (arith, other (z .says))) searched-other
+          ⊎-elim (λ z. omega (arith, other (stops-reply z))) searched-other
           (answered-roomy (length (contentOf c s .bundle)) (length before) (contentOf c s) _ before after a (rw long (enough (length (contentOf c s .bundle)) few)) (rw (content-got s c e k) at x))
-      by-file (stop r) k = let q = file-stops s .at r k in omega (arith, other ((rw (content-stops s r k) at x) .says))
+      by-file (stop r) k = let q = file-stops s .at r k in omega (arith, other (stops-reply (rw (content-stops s r k) at x)))
 
 -- no second line replies to a file
 pub one-line : (s : List ℕ) (l m : Line) → Replies (contentP s) l → Replies (contentP s) m → l ≡ m

@@ -10,9 +10,11 @@ use Rattle.places.specs.declared.BundlePlace.{BundlePlace}
 use Rattle.order.specs.Paths.{Places}
 use Rattle.reply.specs.declared.Answer.{Answer}
 use Rattle.reply.specs.declared.Reply.the-variants as reply
-use Rattle.reply.specs.Answer.{Tells, Stops, saying, shown, placed, pathShown}
+use Rattle.reply.specs.Answer.{Tells, Stops, pathShown}
+use Rattle.reply.specs.Numbers.{saying, shown, placed}
 use Rattle.reply.specs.Settles.{Reach, Outcome}
 use Rattle.reply.specs.Slots.{padded}
+use Rattle.reply.proofs.Says.{tells-reply, tells-path, stops-reply, stops-path}
 use Rattle.report.specs.Lines.{lineOf, newline, numberOf, placesShown, spaced, words}
 use Rattle.report.specs.Text.{ascii, decimal, decimalIn}
 
@@ -29,10 +31,10 @@ path-places p =
     ∙ opened p
 
 pub line-tells : {g : Places} {w : Reach} {k : ℕ} {a : Answer} {o : Outcome} → Tells g w k a o → lineOf a ≡ words (saying o) (shown o) ++ newline
-line-tells {o = o} t = rw (t .says, t .shows, path-places (shown o))
+line-tells {o = o} t = rw (tells-reply t, tells-path t, path-places (shown o))
 
 pub line-stops : {e : ℕ} {before after : List ℕ} {a : Answer} → Stops e before after a → lineOf a ≡ words (reply.Error e) [] ++ newline
-line-stops t = rw (t .says, t .shows, path-places [])
+line-stops t = rw (stops-reply t, stops-path t, path-places [])
 
 -- ---- lines
 

@@ -16,7 +16,7 @@ use Rattle.names.specs.Names.{Attr, nameP, rdnP, attrP}
 use Rattle.same.specs.Same.{places, sameAttr, sameRdn, sameDn}
 use Rattle.lists.specs.Lists.{usageP, dnsNameP}
 use Rattle.extensions.specs.Flags.{flag}
-use Rattle.record.specs.Certificate.{Certificate, certificateP, flagsP, paired}
+use Rattle.record.specs.Certificate.{Certificate, certificate, certificateP, flagsP, paired}
 use Rattle.verdicts.specs.Verdicts.{verdictsP, verdictP}
 use Rattle.task.specs.Task.{purposeP}
 use Rattle.card.specs.Content.{Content, signed, contentP, sectionsP, editionP}
@@ -35,32 +35,15 @@ abbrev name : List (List Attr)
 name = (record { oid = 1 ∷ []; value = 65 ∷ [] } ∷ []) ∷ []
 
 -- a certificate by its flags and its serial
-abbrev certificate : ℕ → ℕ → Certificate
-certificate flags serial =
-    record {
-      version = 2;
-      flags = flags;
-      not-before = 0;
-      not-after = 9;
-      serial = serial ∷ [];
-      outer = 42 ∷ [];
-      inner = 42 ∷ [];
-      issuer = name;
-      subject = name;
-      authority-key-id = none;
-      authority-serial = none;
-      subject-key-id = none;
-      path-length = none;
-      usages = [];
-      dns-names = [];
-    }
+abbrev plain : ℕ → ℕ → Certificate
+plain flags serial = certificate 2 flags 0 9 (serial ∷ []) (42 ∷ []) (42 ∷ []) name name none none none none [] []
 
 -- a leaf and two CAs that are alike, which all signed each other, and two roots, of which the first is no CA: both signed the same places
 abbrev card : List ℕ → ℕ → Content
 card signed budget =
     record {
-      roots = certificate 0 1 ∷ certificate 8 2 ∷ [];
-      bundle = certificate 0 3 ∷ certificate 8 4 ∷ certificate 8 4 ∷ [];
+      roots = plain 0 1 ∷ plain 8 2 ∷ [];
+      bundle = plain 0 3 ∷ plain 8 4 ∷ plain 8 4 ∷ [];
       verdicts = signed ++ (signed ++ replicate 9 1);
       now = 5;
       budget = budget;

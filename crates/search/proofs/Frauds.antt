@@ -14,14 +14,15 @@ use Rattle.order.proofs.Waiting.{after-unique, stack-after}
 use Rattle.reply.specs.declared.Answer.{Answer}
 use Rattle.reply.specs.declared.path.Path.{Path}
 use Rattle.reply.specs.declared.Reply.the-variants.{Accepted, Refused, Exhausted}
-use Rattle.reply.specs.Answer.{saying, shown, placed, pathShown, Tells, Paused, Searched, runs}
-use Rattle.reply.specs.Numbers.{told}
+use Rattle.reply.specs.Answer.{pathShown, Tells, Paused, Searched, runs}
+use Rattle.reply.specs.Numbers.{told, saying, shown, placed}
 use Rattle.reply.specs.Room.{hasRoom, Holding, Holds}
 use Rattle.reply.specs.Settles.{Reach, Outcome, steps}
 use Rattle.reply.specs.Slots.{padded, slotOf}
 use Rattle.reply.proofs.Exists.{settles}
 use Rattle.reply.proofs.Faults.{case-runs}
 use Rattle.reply.proofs.Unique.{settles-unique}
+use Rattle.reply.proofs.Says.{tells-reply, tells-path}
 use Rattle.question.specs.Asked.{placesIn, rootsIn}
 use Rattle.rules.specs.Rules.{at}
 use Rattle.search.specs.Search.{caseIn, Search, Pause}
@@ -65,7 +66,7 @@ module _ (e : ℕ) (before after : List ℕ) (a : Answer) (enough : hasRoom 3 (l
   -- where no root signed anything, and the budget is exact
   module _ (x : Search (got rootless e) before after a) where
     refuses : a .reply ≡ Refused 5
-    refuses = tells rootless e (omega arith) before after a enough x .says ∙ ap saying rootless-refused
+    refuses = tells-reply (tells rootless e (omega arith) before after a enough x) ∙ ap saying rootless-refused
 
     -- a "seen" mark that is kept over paths: [0], [0,2] and [0,2,1] have seen every place
     pub global-mark : a .reply ≢ Refused 3
@@ -88,10 +89,10 @@ module _ (e : ℕ) (before after : List ℕ) (a : Answer) (enough : hasRoom 3 (l
   -- where the roots signed the two CAs
   module _ (x : Search (got rooted e) before after a) where
     accepts : a .reply ≡ Accepted (record { 0 = 1 }) 2
-    accepts = tells rooted e (omega arith) before after a enough x .says ∙ ap saying rooted-accepted
+    accepts = tells-reply (tells rooted e (omega arith) before after a enough x) ∙ ap saying rooted-accepted
 
     shows : a .path ≡ pathShown (0 ∷ 2 ∷ [])
-    shows = tells rooted e (omega arith) before after a enough x .shows ∙ ap (λ o. pathShown (shown o)) rooted-accepted
+    shows = tells-path (tells rooted e (omega arith) before after a enough x) ∙ ap (λ o. pathShown (shown o)) rooted-accepted
 
     pub invented-steps : a .reply ≢ Accepted (record { 0 = 1 }) 3
     invented-steps f = omega (arith, ap (λ r. told r .steps) (sym f ∙ accepts))
@@ -118,5 +119,5 @@ module _ (e : ℕ) (before after : List ℕ) (a : Answer) (enough : hasRoom 3 (l
     pub same-chain : (later : List ℕ) (b : Answer) → Search (got direct e) before later b → a .path ≢ b .path
     unfolding pathShown padded
     same-chain later b y f =
-        let d : b .path ≡ pathShown (0 ∷ []) = tells direct e (omega arith) before later b enough y .shows ∙ ap (λ o. pathShown (shown o)) direct-accepted in
+        let d : b .path ≡ pathShown (0 ∷ []) = tells-path (tells direct e (omega arith) before later b enough y) ∙ ap (λ o. pathShown (shown o)) direct-accepted in
         omega (arith, ap (λ p. p .length) (sym shows ∙ f ∙ d))

@@ -9,10 +9,11 @@ use Rattle.order.specs.Slots.{slotsOf}
 use Rattle.order.specs.Waiting.{After}
 use Rattle.order.proofs.Waiting.{after-unique}
 use Rattle.reply.specs.declared.Answer.{Answer}
-use Rattle.reply.specs.Answer.{saying, Paused, runs}
-use Rattle.reply.specs.Numbers.{told}
+use Rattle.reply.specs.Answer.{Paused, runs}
+use Rattle.reply.specs.Numbers.{told, saying}
 use Rattle.reply.specs.Room.{Holding, Holds}
 use Rattle.reply.specs.Settles.{Outcome, accepted, refused, exhausted, steps}
+use Rattle.reply.proofs.Says.{tells-reply}
 use Rattle.question.specs.Asked.{placesIn, rootsIn}
 use Rattle.rules.specs.Rules.{at}
 use Rattle.search.specs.Search.{caseIn, Pause}
@@ -29,7 +30,7 @@ module _ (s before after : List ℕ) (k : ℕ) (a : Answer) (x : Pause (contentP
     paused = rw free at x
 
     holds : Holds (placesIn c) (told (a .reply) .steps) before after
-    holds = rw (paused .tells .says, steps-told (paused .outcome)) (paused .holds)
+    holds = rw (tells-reply (paused .tells), steps-told (paused .outcome)) (paused .holds)
 
     module _ (ws : List (List ℕ)) (wait : After (placesIn c) (told (a .reply) .steps) ws) where
       same : holds .waiting ≡ ws

@@ -14,10 +14,11 @@ use Rattle.order.specs.Paths.{Linked, Simple, Count, last}
 use Rattle.order.proofs.Simple.{last-at}
 use Rattle.policy.specs.Policy.{policy, chainOf}
 use Rattle.reply.specs.declared.Answer.{Answer}
-use Rattle.reply.specs.Answer.{saying, Searched, runs}
-use Rattle.reply.specs.Numbers.{told}
+use Rattle.reply.specs.Answer.{Searched, runs}
+use Rattle.reply.specs.Numbers.{told, saying}
 use Rattle.reply.specs.Settles.{QualifiesBy, Outcome, accepted, refused, exhausted, Settles}
 use Rattle.reply.proofs.Unique.{covers}
+use Rattle.reply.proofs.Says.{tells-reply}
 use Rattle.question.specs.Asked.{placesIn, rootsIn}
 use Rattle.rules.specs.Rules.{at as timeAt}
 use Rattle.search.specs.Search.{caseIn, Search}
@@ -127,7 +128,7 @@ module _ (s before after : List ℕ) (a : Answer) (x : Search (contentP s) befor
     searched = rw free at x
 
     pub accepted-valid : (told (a .reply) .number ≡ 0) ↔ Valid c
-    accepted-valid = rw (searched .tells .says) (settled c n all enough (searched .outcome) (searched .tells .settled))
+    accepted-valid = rw (tells-reply (searched .tells)) (settled c n all enough (searched .outcome) (searched .tells .settled))
 
     pub yes-or-no : (told (a .reply) .number ≡ 0) ⊎ (told (a .reply) .number ≡ 1)
-    yes-or-no = rw (searched .tells .says) (never-exhausted c n all enough (searched .outcome) (searched .tells .settled))
+    yes-or-no = rw (tells-reply (searched .tells)) (never-exhausted c n all enough (searched .outcome) (searched .tells .settled))

@@ -26,6 +26,7 @@ use Rattle.reply.specs.Settles.{Reach, QualifiesBy, Qualifies, Outcome, accepte
 use Rattle.steps.proofs.Levels.{Stands, closed, over-all, met}
 use Rattle.reply.proofs.Laid.{stack-in-slots, laid-holding}
 use Rattle.reply.proofs.Settled.{Barren, accepts, refuses, exhausts}
+use Rattle.reply.proofs.Says.{by-parts}
 
 -- ---- from any stack
 
@@ -127,7 +128,7 @@ module _ {g : Places} (some : 0 < g .size) (few : g .size ≤ bundleMost) {w : R
 
     module _ {a : Answer} (replies : a .reply ≡ e .reply) (shows : a .path ≡ pathShown (take (e .len) (e .place))) where
       tells : Tells g w k a (S .outcome)
-      tells = record { settled = S .ends; says = replies ∙ S .says; shows = shows ∙ ap pathShown (S .shows) }
+      tells = record { settled = S .ends; says = by-parts (S .outcome) (replies ∙ S .says) (shows ∙ ap pathShown (S .shows)) }
 
       pub stopped-paused : {before after : List ℕ} → after ≡ holding (g .size) (waiting (g .size) (e .ahead) (e .place) (e .depths)) before → Paused g w k before after a
       stopped-paused q = record {

@@ -14,7 +14,7 @@ use Rattle.rows.specs.Rows.{has, joined, left}
 use Rattle.steps.specs.declared.walk.Depths.{Depths}
 use Rattle.steps.specs.declared.walk.End.{End}
 use Rattle.steps.specs.declared.walk.Level.{Level}
-use Rattle.reply.specs.Answer.{saying, shown}
+use Rattle.reply.specs.Numbers.{saying, shown}
 use Rattle.reply.specs.Settles.{Reach, QualifiesBy, Qualifies, Outcome, accepted, refused, exhausted, steps}
 
 -- the path that a slot holds

@@ -7,7 +7,7 @@ use native.Mathlib.Omega.{arith}
 use lib.ListN.{length, take, drop, getD, set, replicate, length-set, length-map}
 use lib.Seq.{take-all}
 use Rattle.places.specs.Limits.{bundleMost}
-use Rattle.reply.specs.Answer.{placed}
+use Rattle.reply.specs.Numbers.{placed}
 use Rattle.desk.specs.Plain.{numbers}
 use Rattle.desk.proofs.Numbers.{number-more}
 use Rattle.desk.proofs.plain.numbers_of.Statement.{statement}

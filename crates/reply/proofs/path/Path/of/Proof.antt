@@ -7,7 +7,8 @@ use native.Mathlib.Nat.{min-le-right}
 use native.Mathlib.Omega.{arith}
 use lib.ListN.{length, take, drop, getD, set, replicate, length-set}
 use Rattle.places.specs.Limits.{bundleMost}
-use Rattle.reply.specs.Answer.{placed, pathShown}
+use Rattle.reply.specs.Answer.{pathShown}
+use Rattle.reply.specs.Numbers.{placed}
 use Rattle.reply.proofs.Shown.{place-more, path-shown, take-few}
 use Rattle.reply.proofs.path.Path.of.Statement.{statement}
 use Rattle.reply.proofs.path.Path.of.Tie as tie
