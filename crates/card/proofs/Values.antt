@@ -9,7 +9,7 @@ use lib.ListN.{length}
 use lib.Seq.{take-append-seam}
 use borrow.Author.Tests.{leb-true}
 use Rattle.places.specs.Limits.{rootsMost, bundleMost}
-use Rattle.fields.specs.Fields.{Parsed, got, stop, after, countedP, whole}
+use Rattle.fields.specs.Fields.{got, stop, after, countedP, whole}
 use Rattle.fields.proofs.Values.{valued, after-known, after-same, after-after, by-place, counted-valued}
 use Rattle.record.specs.Certificate.{Certificate, certificateP}
 use Rattle.record.specs.Parts.{certificateOf}
@@ -25,7 +25,7 @@ use Rattle.verdicts.specs.Grid.{gridP}
 use Rattle.verdicts.proofs.Values.{verdictsOf, grid-valued}
 use Rattle.task.specs.Placed.{taskP}
 use Rattle.task.proofs.Values.{task-valued}
-use Rattle.card.specs.Content.{Content, editionP, sectionsP, fileMost, contentP}
+use Rattle.card.specs.Content.{editionP, sectionsP, fileMost, contentP}
 use Rattle.card.specs.Card.{cardP, fileP}
 use Rattle.card.specs.Parts.{certificatesOf, contentOf}
 use Rattle.card.specs.declared.Card.{Card}

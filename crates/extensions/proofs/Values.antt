@@ -11,7 +11,6 @@ use Rattle.fields.proofs.Strings.{string-by-span}
 use Rattle.fields.proofs.Values.{valued, after-same, after-after, by-place}
 use Rattle.lists.specs.Lists.{usageP, dnsNameP, usagesMost, dnsNamesMost}
 use Rattle.lists.specs.Runs.{usagesP, dnsNamesP}
-use Rattle.lists.specs.declared.Run.{Run}
 use Rattle.lists.proofs.Values.{run-valued}
 use Rattle.extensions.specs.Flags.{hasAuthorityKeyId, hasAuthoritySerial, hasSubjectKeyId, hasPathLength, keyIdMost, serialMost}
 use Rattle.extensions.specs.Extensions.{present, spanIfP, keyIdsP, pathLengthP, extensionsP}

@@ -6,7 +6,7 @@ use native.Mathlib.Omega.{arith}
 use lib.ListN.{length, getD}
 use lib.Dec.{leb}
 use borrow.Author.Tests.{leb-true}
-use Rattle.fields.specs.Fields.{Parsed, got, byteP, countP, stringP, many}
+use Rattle.fields.specs.Fields.{Parsed, got, byteP, countP, many}
 use Rattle.fields.specs.Spans.{spanP}
 use Rattle.fields.proofs.After.{after-got, judged-got, got-is}
 use Rattle.fields.proofs.Counts.{count-read}

@@ -1,10 +1,8 @@
 -- Where a record's lists stand, for readers that copy nothing: how many things a list has and where the first one stands.
 -- Assumes nothing.
 use Prim.Native.Nat.{ℕ}
-use mathlib.Core.Bool.{cond}
 use mathlib.Core.List.{List}
-use lib.Dec.{ltb}
-use Rattle.fields.specs.Fields.{Parsed, got, stop, after, countP, many}
+use Rattle.fields.specs.Fields.{Parsed, got, after, countP, many}
 use Rattle.fields.specs.Spans.{spanP}
 use Rattle.fields.specs.declared.string.Span.{Span}
 use Rattle.lists.specs.Lists.{usagesMost, dnsNameMost, dnsNamesMost, usageP, dnsNameP}

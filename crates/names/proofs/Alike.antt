@@ -10,7 +10,6 @@ use lib.Seq.{length-take-le, getD-take, getD-drop, ext-getD}
 use borrow.Author.Tests.{leb-true}
 use Rattle.fields.specs.Fields.{Parsed, got, after, countP, bytesP, stringP, many, countedP}
 use Rattle.fields.specs.Spans.{bytesOf}
-use Rattle.fields.specs.declared.string.Span.{Span}
 use Rattle.fields.proofs.After.{after-got, judged-got, got-is}
 use Rattle.fields.proofs.Counts.{count-read}
 use Rattle.fields.proofs.Strings.{bytes-within}
