@@ -1,8 +1,10 @@
--- A path's rank is its place in the listing, counted from 1: each simple path has one rank, and there is one number of simple paths. Assumes nothing.
+-- A path's rank is its place in the listing, counted from 1: each simple path has one rank, two have two, and there is one number of simple
+-- paths. Assumes nothing.
 use mathlib.Core.List.{List, []}
 use mathlib.Core.Path.{_≡_, refl, sym, ap, _∙_}
 use Prim.Native.Nat.{ℕ, suc, _<_}
 use native.Mathlib.Nat.{le-of-lt}
+use native.Mathlib.Omega.{arith}
 use lib.ListN.{length, take, drop, getD}
 use lib.Seq.{split-at, length-take-le}
 use Rattle.order.specs.Paths.{Places, Simple, Listing, Rank, Count}
@@ -26,6 +28,15 @@ module _ (g : Places) where
       let (ps, l) = listing-exists g in
       let (k, h, e) = mem-index (l .all p s) [] in
       (suc k, rw e at (rank-at l k h))
+
+  -- simple paths of one rank are one path
+  pub rank-tells : {p q : List ℕ} {r : ℕ} → Simple g p → Simple g q → Rank g p r → Rank g q r → p ≡ q
+  rank-tells s t h h′ =
+      let (ps, l) = listing-exists g in
+      let (k, _, e, f) = rank-is l s h in
+      let (k′, _, e′, f′) = rank-is l t h′ in
+      let m : k ≡ k′ = omega arith in
+      sym e ∙ ap (λ n. getD ps n []) m ∙ e′
 
   pub count-exists : (c : ℕ) × Count g c
   count-exists = let (ps, l) = listing-exists g in (length ps, (ps, l, refl))

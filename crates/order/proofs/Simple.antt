@@ -90,7 +90,7 @@ module _ (g : Places) where
   linked-snoc (x ∷ []) i l e = (e, tt)
   linked-snoc (x ∷ y ∷ p) i l e = (l .0, linked-snoc (y ∷ p) i (l .1) e)
 
-  linked-last : (p : List ℕ) (i : ℕ) → p ≢ [] → Linked g (snoc p i) → g .issued i (last 0 p) ≡ true
+  pub linked-last : (p : List ℕ) (i : ℕ) → p ≢ [] → Linked g (snoc p i) → g .issued i (last 0 p) ≡ true
   linked-last [] i h l = absurd (h refl)
   linked-last (x ∷ []) i h l = l .0
   linked-last (x ∷ y ∷ p) i h l = linked-last (y ∷ p) i cons≢nil (l .1)
@@ -118,7 +118,7 @@ module _ (g : Places) where
   next-sorted p = sorted-keep (λ i. not (used i p) && g .issued i (last 0 p)) (sorted-down (g .size))
 
   module _ {p : List ℕ} (s : Simple g p) where
-    simple-snoc : (i : ℕ) → i < g .size → (i among p → ⊥) → g .issued i (last 0 p) ≡ true → Simple g (snoc p i)
+    pub simple-snoc : (i : ℕ) → i < g .size → (i among p → ⊥) → g .issued i (last 0 p) ≡ true → Simple g (snoc p i)
     simple-snoc i h d e = record {
       start = (snoc (s .start .0) i, ap (λ q. snoc q i) (s .start .1));
       inside = λ x m. ⊎-elim (λ l. s .inside x l) (λ r. let e : x ≡ i = List·Memᴰ·eq-of-singleton r in rw e h) (List·Memᴰ·append-cases p m);

@@ -1,3 +1,4 @@
+pub mod Alike
 pub mod Asked
 pub mod Meaning
 pub mod Pinned

@@ -1,14 +1,18 @@
--- Of a record's head its flags alone say what stands behind it: what `record_at` and `flags` need. Assumes nothing.
+-- Of a record's head its flags alone say what stands behind it: what `record_at` and `flags` need. What stands behind a head comes to the
+-- record (`behind-whole`), or to the first part that can't be read (`behind-strings`, `behind-names`, `behind-extensions`). Assumes nothing.
 use Prim.Native.Nat.{ℕ}
 use mathlib.Core.Path.{_≡_, refl}
 use mathlib.Core.List.{List}
 use native.Mathlib.Omega.{arith}
 use Rattle.fields.specs.Fields.{Parsed, got, stop, after}
 use Rattle.extensions.specs.Extensions.{extensionsP}
+use Rattle.extensions.specs.declared.Extensions.{Extensions}
 use Rattle.record.specs.Fresh.{no-head}
 use Rattle.record.specs.Parts.{valueOr, headOf}
 use Rattle.record.specs.Record.{headP, stringsP, namesP, placed, recordP}
 use Rattle.record.specs.declared.head.Head.{Head}
+use Rattle.record.specs.declared.strings.Strings.{Strings}
+use Rattle.record.specs.declared.parties.Names.{Names}
 use Rattle.record.specs.declared.Record.{Record}
 
 -- the flags of a head that was read
@@ -34,6 +38,22 @@ behind s at flags e =
     after (namesP s f) (λ names g.
     after (extensionsP flags s g) (λ _ h.
     got (placed at (names .issuer) (names .subject) g) h)))
+
+module _ (s : List ℕ) (at flags e : ℕ) where
+  pub behind-strings : {r : ℕ} → stringsP s e ≡ stop r → behind s at flags e ≡ stop r
+  behind-strings h = rw h
+
+  module _ {strings : Strings} {f : ℕ} (h : stringsP s e ≡ got strings f) where
+    pub behind-names : {r : ℕ} → namesP s f ≡ stop r → behind s at flags e ≡ stop r
+    behind-names k = rw (h, k)
+
+    module _ {names : Names} {g : ℕ} (k : namesP s f ≡ got names g) where
+      pub behind-extensions : {r : ℕ} → extensionsP flags s g ≡ stop r → behind s at flags e ≡ stop r
+      behind-extensions l = rw (h, k, l)
+
+      pub behind-whole : {rest : Extensions} {i : ℕ} {r : Record} → extensionsP flags s g ≡ got rest i → r ≡ placed at (names .issuer) (names .subject) g
+          → behind s at flags e ≡ got r i
+      behind-whole l q = rw (h, k, l, q)
 
 module _ (s : List ℕ) (at : ℕ) where
   pub record-behind : {f e : ℕ} → flagsOnly (headP s at) ≡ got f e → recordP s at ≡ behind s at f e

@@ -1,9 +1,9 @@
 -- `slots` answers by the printed table: its rule is a test that antt computes at each of its entries. Assumes nothing.
-use mathlib.Core.Bool.{Bool}
+use mathlib.Core.Bool.{Bool, true, false, cond}
 use mathlib.Core.List.{List}
-use mathlib.Core.Path.{_≡_, sym}
+use mathlib.Core.Path.{_≡_, refl, sym}
 use Prim.Native.Nat.{ℕ, _+_, _<_}
-use lib.Dec.{T, eqb, eqb→eq}
+use lib.Dec.{eqb, eqb→eq}
 use lib.ListN.{length, getD}
 use borrow.Author.Needs.{needs}
 use Rattle.places.specs.Limits.{bundleMost}
@@ -18,15 +18,19 @@ abbrev right : ℕ → ℕ → Bool
 right n x = eqb x (slotsOf n)
 
 -- where each entry is right, the entry at place n is the slots for n
-rule : (xs : List ℕ) (n : ℕ) → T (every right 0 xs) → n < length xs → getD xs n 0 ≡ slotsOf n
-rule xs n t h = eqb→eq (getD xs n 0) (slotsOf n) (at right xs t n h)
+rule : (xs : List ℕ) (n : ℕ) → n < length xs → getD xs n 0 ≡ cond (every right 0 xs) (slotsOf n) (getD xs n 0)
+rule xs n h = by-test (every right 0 xs) refl
+  where
+    by-test : (b : Bool) → every right 0 xs ≡ b → getD xs n 0 ≡ cond b (slotsOf n) (getD xs n 0)
+    by-test true e = eqb→eq (getD xs n 0) (slotsOf n) (at right xs (rw e tt) n h)
+    by-test false e = refl
 
 array-read-result : tie.Need-array-read-result
 array-read-result c = search needs
 
--- the test over the table in the code computes to the unit type, which t proves
+-- the test over the table in the code computes to yes
 returns : tie.Need-returns
-returns c = let t : Unit {0} = tt in let h : c .before .args .n < bundleMost + 1 = search needs in rw rule
+returns c = let h : c .before .args .n < bundleMost + 1 = search needs in rw rule
 
 returns-2 : tie.Need-returns-2
 returns-2 c = sym (slots-past (c .before .args .n) (search needs))

@@ -5,7 +5,7 @@ use mathlib.Core.Path.{sym, ap, _∙_}
 use Rattle.fields.specs.Answers.{counted}
 use Rattle.extensions.specs.Answers.{extended}
 use Rattle.record.specs.Answers.{stringed, named}
-use Rattle.record.proofs.Heads.{record-behind, record-stops}
+use Rattle.record.proofs.Heads.{behind-strings, behind-names, behind-extensions, behind-whole, record-behind, record-stops}
 use Rattle.record.proofs.record_at.Statement.{statement}
 use Rattle.record.proofs.record_at.Tie as tie
 
@@ -47,12 +47,10 @@ returns c =
     let h' = s .before .before in
     let h = h' .before .before in
     sym (record-behind _ _ (sym (h .flags-past .ensures) ∙ ap counted (h' .flags .given .1))
-    ∙ rw (
-      sym (s .strings-at .ensures) ∙ ap stringed (s' .b .given .1),
-      sym (n .names-at .ensures) ∙ ap named (n' .names .given .1),
-      sym (x .extensions-at .ensures) ∙ ap extended (k .next .given .1),
-      ← c .placed .ensures,
-    ))
+    ∙ behind-whole _ _ _ _ (sym (s .strings-at .ensures) ∙ ap stringed (s' .b .given .1))
+    (sym (n .names-at .ensures) ∙ ap named (n' .names .given .1))
+    (sym (x .extensions-at .ensures) ∙ ap extended (k .next .given .1))
+    (c .placed .ensures))
 
 enum-known-fault : tie.Need-enum-known-fault
 enum-known-fault c = search needs
@@ -67,11 +65,9 @@ returns-2 c =
     let h' = s .before .before in
     let h = h' .before .before in
     sym (record-behind _ _ (sym (h .flags-past .ensures) ∙ ap counted (h' .flags .given .1))
-    ∙ rw (
-      sym (s .strings-at .ensures) ∙ ap stringed (s' .b .given .1),
-      sym (n .names-at .ensures) ∙ ap named (n' .names .given .1),
-      sym (x .extensions-at .ensures) ∙ ap extended (c .before .fault .given .1),
-    ))
+    ∙ behind-extensions _ _ _ _ (sym (s .strings-at .ensures) ∙ ap stringed (s' .b .given .1))
+    (sym (n .names-at .ensures) ∙ ap named (n' .names .given .1))
+    (sym (x .extensions-at .ensures) ∙ ap extended (c .before .fault .given .1)))
 
 enum-known-fault-2 : tie.Need-enum-known-fault-2
 enum-known-fault-2 c = search needs
@@ -84,10 +80,8 @@ returns-3 c =
     let h' = s .before .before in
     let h = h' .before .before in
     sym (record-behind _ _ (sym (h .flags-past .ensures) ∙ ap counted (h' .flags .given .1))
-    ∙ rw (
-      sym (s .strings-at .ensures) ∙ ap stringed (s' .b .given .1),
-      sym (n .names-at .ensures) ∙ ap named (c .before .fault2 .given .1),
-    ))
+    ∙ behind-names _ _ _ _ (sym (s .strings-at .ensures) ∙ ap stringed (s' .b .given .1))
+    (sym (n .names-at .ensures) ∙ ap named (c .before .fault2 .given .1)))
 
 enum-known-fault-3 : tie.Need-enum-known-fault-3
 enum-known-fault-3 c = search needs
@@ -98,7 +92,7 @@ returns-4 c =
     let h' = s .before .before in
     let h = h' .before .before in
     sym (record-behind _ _ (sym (h .flags-past .ensures) ∙ ap counted (h' .flags .given .1))
-    ∙ rw (sym (s .strings-at .ensures) ∙ ap stringed (c .before .fault3 .given .1)))
+    ∙ behind-strings _ _ _ _ (sym (s .strings-at .ensures) ∙ ap stringed (c .before .fault3 .given .1)))
 
 enum-known-fault-4 : tie.Need-enum-known-fault-4
 enum-known-fault-4 c = search needs

@@ -1,11 +1,8 @@
 -- `usages_at` answers how many usages there are and where the first stands, and ends past them. Assumes nothing.
 use borrow.Author.Needs.{needs}
 use mathlib.Core.Path.{sym, ap, _∙_}
-use Rattle.fields.specs.Fields.{many}
 use Rattle.fields.specs.Answers.{counted, passed}
-use Rattle.fields.proofs.Ends.{passing-stops, passing-got}
-use Rattle.lists.specs.Lists.{usageP}
-use Rattle.lists.specs.Runs.{runP}
+use Rattle.lists.proofs.Runs.{list-got, list-stops, list-uncounted}
 use Rattle.lists.proofs.usages.usages_at.Statement.{statement}
 use Rattle.lists.proofs.usages.usages_at.Tie as tie
 
@@ -22,34 +19,29 @@ enum-known-next : tie.Need-enum-known-next
 enum-known-next c = search needs
 
 returns : tie.Need-returns
-unfolding runP
 returns c =
     let p = c .before .before .before in
     let n = p .before .before in
-    rw (
-      sym (n .before .before .count-at .ensures) ∙ ap counted (n .count .given .1),
-      passing-got (many usageP _ _ _) _ (sym (p .usages-past .ensures) ∙ ap passed (c .before .next .given .1)) .is,
-    )
+    sym
+    (list-got _ _ _ _ (sym (n .before .before .count-at .ensures) ∙ ap counted (n .count .given .1))
+    (sym (p .usages-past .ensures) ∙ ap passed (c .before .next .given .1)))
 
 enum-known-fault : tie.Need-enum-known-fault
 enum-known-fault c = search needs
 
 returns-2 : tie.Need-returns-2
-unfolding runP
 returns-2 c =
     let p = c .before .before .before in
     let n = p .before .before in
-    rw (
-      sym (n .before .before .count-at .ensures) ∙ ap counted (n .count .given .1),
-      passing-stops (many usageP _ _ _) _ (sym (p .usages-past .ensures) ∙ ap passed (c .before .fault .given .1)),
-    )
+    sym
+    (list-stops _ _ _ _ (sym (n .before .before .count-at .ensures) ∙ ap counted (n .count .given .1))
+    (sym (p .usages-past .ensures) ∙ ap passed (c .before .fault .given .1)))
 
 enum-known-fault-2 : tie.Need-enum-known-fault-2
 enum-known-fault-2 c = search needs
 
 returns-3 : tie.Need-returns-3
-unfolding runP
-returns-3 c = rw (sym (c .before .before .before .count-at .ensures) ∙ ap counted (c .before .fault2 .given .1))
+returns-3 c = sym (list-uncounted _ _ _ _ (sym (c .before .before .before .count-at .ensures) ∙ ap counted (c .before .fault2 .given .1)))
 
 pub usages-at-spec : {M : Type 1} → statement M
 usages-at-spec =

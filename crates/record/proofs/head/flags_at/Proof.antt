@@ -4,7 +4,7 @@ use mathlib.Core.Path.{sym, ap, _∙_}
 use Rattle.fields.specs.Answers.{counted}
 use Rattle.record.specs.Certificate.{flagsP}
 use Rattle.record.specs.Record.{openingP}
-use Rattle.record.proofs.Flags.{paired-test}
+use Rattle.record.proofs.Flags.{no-ca, no-key-usage, opens}
 use borrow.Author.Needs.{needs}
 use Rattle.record.proofs.head.flags_at.Statement.{statement}
 use Rattle.record.proofs.head.flags_at.Tie as tie
@@ -25,50 +25,41 @@ lacks-requires : tie.Need-lacks-requires
 lacks-requires c κs = search needs
 
 returns : tie.Need-returns
-unfolding openingP flagsP
 returns c =
     let l = c .before in
     let t = l .before .before .before .before in
     let v = t .before .before in
-    rw (
-      sym (v .before .before .byte-at .ensures) ∙ ap counted (v .version .given .1),
-      sym (t .byte-at2 .ensures) ∙ ap counted (l .before .before .flags .given .1),
-      paired-test,
-      sym (l .lacks .ensures) ∙ c .if1 .taken,
-    )
+    sym
+    (no-ca _ _ (sym (v .before .before .byte-at .ensures) ∙ ap counted (v .version .given .1))
+    (sym (t .byte-at2 .ensures) ∙ ap counted (l .before .before .flags .given .1))
+    (sym (l .lacks .ensures) ∙ c .if1 .taken))
 
 lacks-requires-2 : tie.Need-lacks-requires-2
 lacks-requires-2 c κs = search needs
 
 returns-2 : tie.Need-returns-2
-unfolding openingP flagsP
 returns-2 c =
     let m = c .before in
     let l = m .before .before in
     let t = l .before .before .before .before in
     let v = t .before .before in
-    rw (
-      sym (v .before .before .byte-at .ensures) ∙ ap counted (v .version .given .1),
-      sym (t .byte-at2 .ensures) ∙ ap counted (l .before .before .flags .given .1),
-      paired-test,
-      sym (l .lacks .ensures) ∙ m .before .if1 .left,
-      sym (m .lacks2 .ensures) ∙ c .if2 .taken,
-    )
+    sym
+    (no-key-usage _ _ (sym (v .before .before .byte-at .ensures) ∙ ap counted (v .version .given .1))
+    (sym (t .byte-at2 .ensures) ∙ ap counted (l .before .before .flags .given .1))
+    (sym (l .lacks .ensures) ∙ m .before .if1 .left)
+    (sym (m .lacks2 .ensures) ∙ c .if2 .taken))
 
 returns-3 : tie.Need-returns-3
-unfolding openingP flagsP
 returns-3 c =
     let m = c .before in
     let l = m .before .before in
     let t = l .before .before .before .before in
     let v = t .before .before in
-    rw (
-      sym (v .before .before .byte-at .ensures) ∙ ap counted (v .version .given .1),
-      sym (t .byte-at2 .ensures) ∙ ap counted (l .before .before .flags .given .1),
-      paired-test,
-      sym (l .lacks .ensures) ∙ m .before .if1 .left,
-      sym (m .lacks2 .ensures) ∙ c .if2 .left,
-    )
+    sym
+    (opens _ _ (sym (v .before .before .byte-at .ensures) ∙ ap counted (v .version .given .1))
+    (sym (t .byte-at2 .ensures) ∙ ap counted (l .before .before .flags .given .1))
+    (sym (l .lacks .ensures) ∙ m .before .if1 .left)
+    (sym (m .lacks2 .ensures) ∙ c .if2 .left))
 
 enum-known-fault : tie.Need-enum-known-fault
 enum-known-fault c = search needs
