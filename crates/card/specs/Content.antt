@@ -24,6 +24,7 @@ pub record Content : Type 0 where
 unfoldable pub editionP : List ℕ → ℕ → Parsed ℕ
 editionP s at = after (byteP s at) (λ edition e. cond (eqb edition 1) (got edition e) (stop 4))
 
+-- edition, roots, bundle, verdicts, and the task: a count of 1, now, budget, purpose, host
 unfoldable pub sectionsP : List ℕ → ℕ → Parsed Content
 sectionsP s at =
     after (editionP s at) (λ _ a.

@@ -60,6 +60,7 @@ flagsP s at = after (byteP s at) (λ flags e. cond (paired flags) (got flags e) 
 abbrev pub algorithmMost : ℕ
 algorithmMost = 32
 
+-- a certificate in a file: each part where the one before it ends
 unfoldable pub certificateP : List ℕ → ℕ → Parsed Certificate
 certificateP s at =
     after (byteP s at) (λ version a.
