@@ -21,7 +21,7 @@ ghost use lib.ListN.{set};
 ghost use Rattle.places.specs.Limits.{bundleMost};
 ghost use Rattle.question.specs.Question.{placesBy};
 ghost use Rattle.policy.specs.Standing.{over};
-ghost use Rattle.rows.specs.Rows.{joined, left, common};
+ghost use Rattle.rows.specs.Rows.{joined, left, common, highest};
 ghost use Rattle.steps.specs.Parts.{rootsSeated, stackOf, Ready, onward, Ends, Stopped};
 
 // What a walk keeps of a depth beside the places that are still to be taken there: the places that the path before leaves free, and how
@@ -65,6 +65,13 @@ pub(crate) fn first(n: u8, seats: &[u64; Seats::ROWS]) -> Depths
         levels: [level; BundlePlace::MOST],
         depth: 0,
     }
+}
+
+// The place that is taken next: the highest of those ahead, as the order of paths has it.
+fn next_place(row: u64) -> u8
+    ensures { λ r. ⌜ r ≡ highest row ⌝ }
+{
+    highest(row)
 }
 
 // The places by which a path goes on from place i, which these places issued.
@@ -125,7 +132,7 @@ pub(crate) fn walk(
             return stopped(Reply::Exhausted { steps }, 0, place, ahead, d, row);
         }
         steps += 1;
-        let i = highest(row);
+        let i = next_place(row);
         place[d] = i;
         row = without(row, with(0, i));
         let next = children(here, i, rows[i as usize]);

@@ -99,8 +99,8 @@ returns-2 c =
 add-steps : tie.Need-add-steps Inv-loop μ-loop
 add-steps c = search needs
 
-highest-requires : tie.Need-highest-requires Inv-loop μ-loop
-highest-requires c κs = search needs
+next-place-requires : tie.Need-next-place-requires Inv-loop μ-loop
+next-place-requires c κs = search needs
 
 array-write-place : tie.Need-array-write-place Inv-loop μ-loop
 array-write-place c = search needs
@@ -118,8 +118,8 @@ mul-children : tie.Need-mul-children Inv-loop μ-loop
 mul-children c = search needs
 
 -- the place that is taken is below the bundle's limit
-low : (h : tie.After-highest Inv-loop μ-loop) → h .highest .result < bundleMost
-low h = let S = h .before .before .before .loop .inv .stands in omega (arith, place-low S (h .highest .ensures) (h .before .before .if1 .left), S .few)
+low : (h : tie.After-next-place Inv-loop μ-loop) → h .next-place .result < bundleMost
+low h = let S = h .before .before .before .loop .inv .stands in omega (arith, place-low S (h .next-place .ensures) (h .before .before .if1 .left), S .few)
 
 element-copy-out-children : tie.Need-element-copy-out-children Inv-loop μ-loop
 element-copy-out-children c = low (c .before .before)
@@ -161,14 +161,14 @@ onward-requires c κs = search needs
 abbrev entry : tie.After-roots-over Inv-loop μ-loop → tie.Start Inv-loop μ-loop
 entry t = t .before .before .before .before .before .before .before .before .before .before .before .before .before .before
 
-abbrev chosen : tie.After-roots-over Inv-loop μ-loop → tie.After-highest Inv-loop μ-loop
+abbrev chosen : tie.After-roots-over Inv-loop μ-loop → tie.After-next-place Inv-loop μ-loop
 chosen t = t .before .before .before .before .before .before
 
 abbrev turn : tie.After-roots-over Inv-loop μ-loop → tie.At-loop Inv-loop μ-loop
 turn t = chosen t .before .before .before
 
 abbrev path : tie.After-roots-over Inv-loop μ-loop → List ℕ
-path t = snoc (take (turn t .loop .d) (turn t .loop .place)) (chosen t .highest .result)
+path t = snoc (take (turn t .loop .d) (turn t .loop .place)) (chosen t .next-place .result)
 
 abbrev graph : tie.After-roots-over Inv-loop μ-loop → Places
 graph t = placesBy (entry t .args .rows .now) (entry t .args .n)
@@ -183,21 +183,21 @@ time : (t : tie.After-roots-over Inv-loop μ-loop) → turn t .loop .steps < ent
 time t = omega (arith, chosen t .before .if3 .left)
 
 -- the row without the place
-fewer : (t : tie.After-roots-over Inv-loop μ-loop) → t .before .before .before .before .without .result ≡ left (turn t .loop .row) (joined 0 (chosen t .highest .result))
+fewer : (t : tie.After-roots-over Inv-loop μ-loop) → t .before .before .before .before .without .result ≡ left (turn t .loop .row) (joined 0 (chosen t .next-place .result))
 fewer t = t .before .before .before .before .without .ensures ∙ ap (left (turn t .loop .row)) (t .before .before .before .before .before .with .ensures)
 
 -- the path's roots as a row
 over : (t : tie.After-roots-over Inv-loop μ-loop) → t .roots-over .result ≡ rootsOver (entry t .args .roots .now) (entry t .args .seats .now) (path t)
-over t = roots-are (turn t .loop .inv .stands) (chosen t .highest .ensures) (some t) _ (t .roots-over .ensures)
+over t = roots-are (turn t .loop .inv .stands) (chosen t .next-place .ensures) (some t) _ (t .roots-over .ensures)
 
 -- it was on top
 on-top : (t : tie.After-roots-over Inv-loop μ-loop) → top (pops (graph t) (turn t .loop .steps) (began t)) ≡ path t ∷ []
-on-top t = met (turn t .loop .inv .stands) (chosen t .highest .ensures) (some t)
+on-top t = met (turn t .loop .inv .stands) (chosen t .next-place .ensures) (some t)
 
 -- the state after the step, and how deep it is
 moved : (c : tie.Joined4 Inv-loop μ-loop) → let t = c .before in
     Stands (graph t) (entry t .args .seats .now) (began t) (c .if4 .ahead) (c .if4 .levels)
-    (set (turn t .loop .place) (turn t .loop .d) (chosen t .highest .result)) (c .if4 .row) (c .if4 .here) (c .if4 .d)
+    (set (turn t .loop .place) (turn t .loop .d) (chosen t .next-place .result)) (c .if4 .row) (c .if4 .here) (c .if4 .d)
     (turn t .loop .steps + 1)
     × (c .if4 .d ≤ turn t .loop .d + 1)
 moved c =
@@ -205,8 +205,8 @@ moved c =
     let S = turn t .loop .inv .stands in
     let next = t .before .before .children .ensures in
     ⊎-elim
-    (λ w. (rw (w .2, w .3, w .4, w .5, w .6) (sank S (chosen t .highest .ensures) (some t) _ (λ j. refl) next (fewer t) (w .1 .ensures) (omega (arith, w .0 .taken)) (search needs)), omega (arith, w .4)))
-    (λ w. (rw (w .1, w .2, w .3, w .4, w .5) (stayed S (chosen t .highest .ensures) (some t) _ (λ j. refl) next (fewer t) (w .0 .left)), omega (arith, w .3)))
+    (λ w. (rw (w .2, w .3, w .4, w .5, w .6) (sank S (chosen t .next-place .ensures) (some t) _ (λ j. refl) next (fewer t) (w .1 .ensures) (omega (arith, w .0 .taken)) (search needs)), omega (arith, w .4)))
+    (λ w. (rw (w .1, w .2, w .3, w .4, w .5) (stayed S (chosen t .next-place .ensures) (some t) _ (λ j. refl) next (fewer t) (w .0 .left)), omega (arith, w .3)))
     (c .if4 .came)
 
 lowest-requires : tie.Need-lowest-requires Inv-loop μ-loop
@@ -222,7 +222,7 @@ returns-3 c =
     let l = turn t .loop in
     let r = row-found _ _ _ (over t) (omega (arith, c .before .before .if5 .taken)) (search needs) in
     rw (c .stopped3 .ensures, c .before .lowest .ensures)
-    (stop-accepted (l .inv .vain) (moved j .0) (on-top t) (time t) r (omega (arith, l .inv .stands .deep)) (path-is (l .inv .stands) (chosen t .highest .ensures) (some t)))
+    (stop-accepted (l .inv .vain) (moved j .0) (on-top t) (time t) r (omega (arith, l .inv .stands .deep)) (path-is (l .inv .stands) (chosen t .next-place .ensures) (some t)))
 
 loop-less-2 : tie.Need-loop-less-2 Inv-loop μ-loop
 loop-less-2 c = omega (arith, moved (c .before) .1, time (c .before .before))
@@ -259,7 +259,7 @@ walk-spec =
     stopped-requires-2
     returns-2
     add-steps
-    highest-requires
+    next-place-requires
     array-write-place
     with-requires
     without-requires
