@@ -6,11 +6,11 @@ ghost use Rattle.extensions.specs.Flags.{flag};
 pub struct Flags {}
 
 impl Flags {
-    pub const AUTHORITY_KEY_ID: usize = 1;
+    pub const AUTHORITY_KEY: usize = 1;
 
     pub const AUTHORITY_SERIAL: usize = 2;
 
-    pub const SUBJECT_KEY_ID: usize = 4;
+    pub const SUBJECT_KEY: usize = 4;
 
     pub const CA: usize = 8;
 

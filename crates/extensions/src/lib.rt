@@ -17,6 +17,7 @@ use lists::usages_at;
 ghost use mathlib.Core.Path.{_≡_};
 ghost use Rattle.fields.specs.Answers.{counted};
 ghost use Rattle.extensions.specs.Extensions.{spanIfP, keyIdsP, pathLengthP, extensionsP};
+ghost use Rattle.extensions.specs.Flags.{flag};
 ghost use Rattle.extensions.specs.Answers.{opted, identified, extended};
 
 // Key ids and the authority's serial; a part whose flag is not set stands nowhere.
@@ -100,30 +101,15 @@ pub fn extensions_at(file: &[u8], at: usize, flags: usize) -> ExtensionsAt
 pub fn key_ids_at(file: &[u8], at: usize, flags: usize) -> KeyIdsAt
     ensures { λ r. ⌜ identified r ≡ keyIdsP flags (now (file .entry)) at ⌝ }
 {
-    match option_at(
-        file,
-        at,
-        has_flag(flags, Flags::AUTHORITY_KEY_ID),
-        KeyIds::KEY_ID_MOST,
-    ) {
+    match option_at(file, at, flags, Flags::AUTHORITY_KEY, KeyIds::KEY_ID_MOST) {
         OptionAt::Got {
             span: authority,
             next: a,
-        } => match option_at(
-            file,
-            a,
-            has_flag(flags, Flags::AUTHORITY_SERIAL),
-            KeyIds::SERIAL_MOST,
-        ) {
+        } => match option_at(file, a, flags, Flags::AUTHORITY_SERIAL, KeyIds::SERIAL_MOST) {
             OptionAt::Got {
                 span: authority_serial,
                 next: b,
-            } => match option_at(
-                file,
-                b,
-                has_flag(flags, Flags::SUBJECT_KEY_ID),
-                KeyIds::KEY_ID_MOST,
-            ) {
+            } => match option_at(file, b, flags, Flags::SUBJECT_KEY, KeyIds::KEY_ID_MOST) {
                 OptionAt::Got {
                     span: subject,
                     next,
@@ -161,11 +147,11 @@ fn path_length_at(file: &[u8], at: usize, flags: usize) -> CountAt
     CountAt::Got { count: 0, next: at }
 }
 
-// A string of at least one byte where it is present; nothing is read where it is not.
-fn option_at(file: &[u8], at: usize, present: bool, most: usize) -> OptionAt
-    ensures { λ r. ⌜ opted r ≡ spanIfP present most (now (file .entry)) at ⌝ }
+// A string of at least one byte where its flag is set; nothing is read where it is not.
+fn option_at(file: &[u8], at: usize, flags: usize, one: usize, most: usize) -> OptionAt
+    ensures { λ r. ⌜ opted r ≡ spanIfP (flag one flags) most (now (file .entry)) at ⌝ }
 {
-    if present {
+    if has_flag(flags, one) {
         match string_at(file, at, KeyIds::LEAST, most) {
             StringAt::Got(span) => {
                 return OptionAt::Got {

@@ -55,11 +55,11 @@ fn keys_fit(file: &[u8], issuer: Record, claim: Claim) -> bool
     let own = issuer.key_ids(file, named);
     let strings = issuer.strings(file);
     check_auth_key_id(
-        has_flag(flags, Flags::AUTHORITY_KEY_ID),
+        has_flag(flags, Flags::AUTHORITY_KEY),
         part(file, claim.key_id),
         has_flag(flags, Flags::AUTHORITY_SERIAL),
         part(file, claim.serial),
-        has_flag(named, Flags::SUBJECT_KEY_ID),
+        has_flag(named, Flags::SUBJECT_KEY),
         part(file, own.subject),
         part(file, strings.serial),
     )

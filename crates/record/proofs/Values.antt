@@ -4,21 +4,20 @@ use Prim.Native.Nat.{ℕ, _+_, _≤_}
 use mathlib.Core.Path.{_≡_, sym, ap, _∙_}
 use mathlib.Core.List.{List}
 use lib.ListN.{length}
-use Rattle.fields.specs.Fields.{Parsed, got, after, byteP, stringP, bigP, many}
+use Rattle.fields.specs.Fields.{Parsed, got, after, byteP, stringP, bigP}
 use Rattle.fields.specs.Spans.{spanP, bytesOf, listOf}
 use Rattle.fields.proofs.After.{after-got, got-is}
 use Rattle.fields.proofs.Strings.{string-by-span}
 use Rattle.fields.proofs.Values.{valued, after-known, after-same, after-after, by-place, read-again}
 use Rattle.names.specs.Names.{Attr, nameP}
-use Rattle.lists.specs.Lists.{usageP, dnsNameP}
 use Rattle.lists.specs.Runs.{usagesP, dnsNamesP}
-use Rattle.extensions.specs.Flags.{hasAuthorityKeyId, hasAuthoritySerial, hasSubjectKeyId, hasPathLength, serialMost}
-use Rattle.extensions.specs.Extensions.{present, keyIdsP, pathLengthP, extensionsP}
+use Rattle.extensions.specs.Flags.{serialMost}
+use Rattle.extensions.specs.Extensions.{keyIdsP, pathLengthP, extensionsP}
 use Rattle.extensions.specs.declared.Extensions.{Extensions}
 use Rattle.extensions.proofs.Values.{extensions-valued}
-use Rattle.record.specs.Certificate.{Certificate, flagsP, algorithmMost, certificateP}
+use Rattle.record.specs.Certificate.{flagsP, algorithmMost, certificateP}
 use Rattle.record.specs.Fresh.{no-key-ids}
-use Rattle.record.specs.Parts.{valueOr, headOf, stringsOf, keyIdsOf, extensionsOf, certificateBy, certificateOf}
+use Rattle.record.specs.Parts.{valueOr, headOf, stringsOf, keyIdsOf, extensionsOf, certified, certificateBy, certificateOf}
 use Rattle.record.specs.Record.{openingP, datesP, headP, stringsP, namesP, placeMost, placed, recordP}
 use Rattle.record.specs.declared.head.Head.{Head}
 use Rattle.record.specs.declared.strings.Strings.{Strings}
@@ -73,27 +72,6 @@ module _ {B : Type 0} (s : List ℕ) where
 
 -- ---- the whole
 
--- the certificate of what was found: its groups, and the places of its names
-abbrev certified : List ℕ → Head → Strings → Names → Extensions → Certificate
-certified s h t n x =
-    record {
-      version = h .version;
-      flags = h .flags;
-      not-before = h .«not_before»;
-      not-after = h .«not_after»;
-      serial = bytesOf (t .serial) s;
-      outer = bytesOf (t .outer) s;
-      inner = bytesOf (t .inner) s;
-      issuer = listOf (nameP s (n .issuer));
-      subject = listOf (nameP s (n .subject));
-      authority-key-id = present (hasAuthorityKeyId (h .flags)) (bytesOf (x .«key_ids» .authority) s);
-      authority-serial = present (hasAuthoritySerial (h .flags)) (bytesOf (x .«key_ids» .«authority_serial») s);
-      subject-key-id = present (hasSubjectKeyId (h .flags)) (bytesOf (x .«key_ids» .subject) s);
-      path-length = present (hasPathLength (h .flags)) (x .«path_length»);
-      usages = listOf (many usageP (x .usages .count) s (x .usages .first));
-      dns-names = listOf (many dnsNameP (x .«dns_names» .count) s (x .«dns_names» .first));
-    }
-
 module _ (s : List ℕ) where
   grouped : (at : ℕ)
       → certificateP s at
@@ -101,7 +79,7 @@ module _ (s : List ℕ) where
       after (stringsP s d) (λ t g.
       after (namesP s g) (λ n i.
       after (extensionsP (h .flags) s i) (λ x o.
-      got (certified s h t n x) o))))
+      got (certified s h t n (x .«key_ids») x) o))))
   unfolding certificateP
   grouped at =
       head-valued s at _
@@ -122,7 +100,7 @@ module _ (s : List ℕ) where
 
   says : (at f g k e : ℕ) (h : Head) (t : Strings) (x : Extensions)
       → headP s at ≡ got h (at + 18) → stringsP s (at + 18) ≡ got t f → extensionsP (h .flags) s k ≡ got x e
-      → certificateOf (record { start = at; issuer = f; subject = g; rest = k }) s ≡ certified s h t (record { issuer = f; subject = g }) x
+      → certificateOf (record { start = at; issuer = f; subject = g; rest = k }) s ≡ certified s h t (record { issuer = f; subject = g }) (x .«key_ids») x
   unfolding certificateOf certificateBy headOf stringsOf keyIdsOf extensionsOf
   says at f g k e h t x head strings extensions = rw (head, strings, extensions, key-ids-of (h .flags) k x e extensions)
 
@@ -143,12 +121,12 @@ module _ (s : List ℕ) where
       where
         found : (at : ℕ) (h : Head) (d : ℕ) (t : Strings) (g : ℕ) (n : Names) (i : ℕ) (x : Extensions) (o : ℕ)
             → headP s at ≡ got h d → stringsP s d ≡ got t g → namesP s g ≡ got n i → extensionsP (h .flags) s i ≡ got x o
-            → certified s h t n x ≡ certificateOf (placed at (n .issuer) (n .subject) i) s
+            → certified s h t n (x .«key_ids») x ≡ certificateOf (placed at (n .issuer) (n .subject) i) s
         found at h d t g n i x o head strings names extensions =
             let ends : d ≡ at + 18 = head-ends s at h d head .1 in
             let issuer = after-got (nameP s g) _ names in
             let subject = after-got (nameP s (issuer .place)) _ (issuer .next) in
-            got-is (λ (n : Names) i. extensionsP (h .flags) s i ≡ got x o → certified s h t n x ≡ certificateOf (placed at (n .issuer) (n .subject) i) s)
+            got-is (λ (n : Names) i. extensionsP (h .flags) s i ≡ got x o → certified s h t n (x .«key_ids») x ≡ certificateOf (placed at (n .issuer) (n .subject) i) s)
             (subject .next)
             (λ ext.
             sym (ap (λ r. certificateOf r s)

@@ -16,6 +16,7 @@ use Rattle.record.specs.Fresh.{no-head, no-strings, no-key-ids, no-exten
 use Rattle.record.specs.Record.{headP, stringsP}
 use Rattle.record.specs.declared.head.Head.{Head}
 use Rattle.record.specs.declared.strings.Strings.{Strings}
+use Rattle.record.specs.declared.parties.Names.{Names}
 use Rattle.record.specs.declared.Record.{Record}
 
 -- what was read, or else
@@ -43,12 +44,9 @@ issuerSpan r = record { start = r .issuer; end = r .subject }
 abbrev pub subjectSpan : Record → Span
 subjectSpan r = record { start = r .subject; end = r .rest }
 
--- what a head and a record's places say over a file, whatever they are
-unfoldable pub certificateBy : Head → Record → List ℕ → Certificate
-certificateBy head r s =
-    let strings = stringsOf r s in
-    let keyIds = keyIdsOf (head .flags) r s in
-    let rest = extensionsOf (head .flags) r s in
+-- the certificate that a head, strings, two names by their places, key ids and extensions make over a file
+abbrev pub certified : List ℕ → Head → Strings → Names → KeyIds → Extensions → Certificate
+certified s head strings names keyIds rest =
     record {
       version = head .version;
       flags = head .flags;
@@ -57,8 +55,8 @@ certificateBy head r s =
       serial = bytesOf (strings .serial) s;
       outer = bytesOf (strings .outer) s;
       inner = bytesOf (strings .inner) s;
-      issuer = listOf (nameP s (r .issuer));
-      subject = listOf (nameP s (r .subject));
+      issuer = listOf (nameP s (names .issuer));
+      subject = listOf (nameP s (names .subject));
       authority-key-id = present (hasAuthorityKeyId (head .flags)) (bytesOf (keyIds .authority) s);
       authority-serial = present (hasAuthoritySerial (head .flags)) (bytesOf (keyIds .«authority_serial») s);
       subject-key-id = present (hasSubjectKeyId (head .flags)) (bytesOf (keyIds .subject) s);
@@ -66,6 +64,11 @@ certificateBy head r s =
       usages = listOf (many usageP (rest .usages .count) s (rest .usages .first));
       dns-names = listOf (many dnsNameP (rest .«dns_names» .count) s (rest .«dns_names» .first));
     }
+
+-- what a head and a record's places say over a file, whatever they are
+unfoldable pub certificateBy : Head → Record → List ℕ → Certificate
+certificateBy head r s =
+    certified s head (stringsOf r s) (record { issuer = r .issuer; subject = r .subject }) (keyIdsOf (head .flags) r s) (extensionsOf (head .flags) r s)
 
 -- what a record says over a file: its own head, and its places
 unfoldable pub certificateOf : Record → List ℕ → Certificate

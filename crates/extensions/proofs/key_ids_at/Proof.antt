@@ -3,19 +3,14 @@
 use borrow.Author.Needs.{needs}
 use Prim.Native.Nat.{ℕ}
 use mathlib.Core.Path.{_≡_, sym, ap, _∙_}
-use mathlib.Core.Bool.{Bool}
 use mathlib.Core.List.{List}
-use Rattle.fields.specs.Fields.{Parsed, got, stop}
+use Rattle.fields.specs.Fields.{got, stop}
 use Rattle.fields.specs.declared.string.Span.{Span}
 use Rattle.extensions.specs.Flags.{hasAuthorityKeyId, hasAuthoritySerial, hasSubjectKeyId, keyIdMost, serialMost}
 use Rattle.extensions.specs.Extensions.{spanIfP, keyIdsP}
 use Rattle.extensions.specs.Answers.{opted}
 use Rattle.extensions.proofs.key_ids_at.Statement.{statement}
 use Rattle.extensions.proofs.key_ids_at.Tie as tie
-
--- a part's reader was handed its flag
-by-flag : (most : ℕ) (s : List ℕ) (at : ℕ) {b c : Bool} {x : Parsed Span} → b ≡ c → x ≡ spanIfP b most s at → spanIfP c most s at ≡ x
-by-flag most s at f h = sym (h ∙ ap (λ b. spanIfP b most s at) f)
 
 module _ (flags : ℕ) (s : List ℕ) (at : ℕ) where
   no-authority : {r : ℕ} → spanIfP (hasAuthorityKeyId flags) keyIdMost s at ≡ stop r → keyIdsP flags s at ≡ stop r
@@ -36,15 +31,6 @@ module _ (flags : ℕ) (s : List ℕ) (at : ℕ) where
           → keyIdsP flags s at ≡ got (record { authority = authority; «authority_serial» = serial; subject = subject }) g
       unfolding keyIdsP
       all-three l = rw (h, k, l)
-
-has-flag-requires : tie.Need-has-flag-requires
-has-flag-requires c κs = search needs
-
-has-flag-requires-2 : tie.Need-has-flag-requires-2
-has-flag-requires-2 c κs = search needs
-
-has-flag-requires-3 : tie.Need-has-flag-requires-3
-has-flag-requires-3 c κs = search needs
 
 option-at-requires : tie.Need-option-at-requires
 option-at-requires c κs = search needs
@@ -67,14 +53,14 @@ enum-known-subject c = search needs
 returns : tie.Need-returns
 returns c =
     let s = c .before .before .before in
-    let r' = s .before .before .before in
+    let r' = s .before .before in
     let r = r' .before .before in
-    let a' = r .before .before .before in
+    let a' = r .before .before in
     let a = a' .before .before in
     sym
-    (all-three _ _ _ (by-flag _ _ _ (a .before .has-flag .ensures) (a .option-at .ensures) ∙ ap opted (a' .authority .given .1))
-    (by-flag _ _ _ (r .before .has-flag2 .ensures) (r .option-at2 .ensures) ∙ ap opted (r' .authority-serial .given .1))
-    (by-flag _ _ _ (s .before .has-flag3 .ensures) (s .option-at3 .ensures) ∙ ap opted (c .before .subject .given .1)))
+    (all-three _ _ _ (sym (a .option-at .ensures) ∙ ap opted (a' .authority .given .1))
+    (sym (r .option-at2 .ensures) ∙ ap opted (r' .authority-serial .given .1))
+    (sym (s .option-at3 .ensures) ∙ ap opted (c .before .subject .given .1)))
 
 enum-known-fault : tie.Need-enum-known-fault
 enum-known-fault c = search needs
@@ -82,14 +68,14 @@ enum-known-fault c = search needs
 returns-2 : tie.Need-returns-2
 returns-2 c =
     let s = c .before .before .before in
-    let r' = s .before .before .before in
+    let r' = s .before .before in
     let r = r' .before .before in
-    let a' = r .before .before .before in
+    let a' = r .before .before in
     let a = a' .before .before in
     sym
-    (no-subject _ _ _ (by-flag _ _ _ (a .before .has-flag .ensures) (a .option-at .ensures) ∙ ap opted (a' .authority .given .1))
-    (by-flag _ _ _ (r .before .has-flag2 .ensures) (r .option-at2 .ensures) ∙ ap opted (r' .authority-serial .given .1))
-    (by-flag _ _ _ (s .before .has-flag3 .ensures) (s .option-at3 .ensures) ∙ ap opted (c .before .fault .given .1)))
+    (no-subject _ _ _ (sym (a .option-at .ensures) ∙ ap opted (a' .authority .given .1))
+    (sym (r .option-at2 .ensures) ∙ ap opted (r' .authority-serial .given .1))
+    (sym (s .option-at3 .ensures) ∙ ap opted (c .before .fault .given .1)))
 
 enum-known-fault-2 : tie.Need-enum-known-fault-2
 enum-known-fault-2 c = search needs
@@ -97,11 +83,11 @@ enum-known-fault-2 c = search needs
 returns-3 : tie.Need-returns-3
 returns-3 c =
     let r = c .before .before .before in
-    let a' = r .before .before .before in
+    let a' = r .before .before in
     let a = a' .before .before in
     sym
-    (no-serial _ _ _ (by-flag _ _ _ (a .before .has-flag .ensures) (a .option-at .ensures) ∙ ap opted (a' .authority .given .1))
-    (by-flag _ _ _ (r .before .has-flag2 .ensures) (r .option-at2 .ensures) ∙ ap opted (c .before .fault2 .given .1)))
+    (no-serial _ _ _ (sym (a .option-at .ensures) ∙ ap opted (a' .authority .given .1))
+    (sym (r .option-at2 .ensures) ∙ ap opted (c .before .fault2 .given .1)))
 
 enum-known-fault-3 : tie.Need-enum-known-fault-3
 enum-known-fault-3 c = search needs
@@ -109,19 +95,16 @@ enum-known-fault-3 c = search needs
 returns-4 : tie.Need-returns-4
 returns-4 c =
     let a = c .before .before .before in
-    sym (no-authority _ _ _ (by-flag _ _ _ (a .before .has-flag .ensures) (a .option-at .ensures) ∙ ap opted (c .before .fault3 .given .1)))
+    sym (no-authority _ _ _ (sym (a .option-at .ensures) ∙ ap opted (c .before .fault3 .given .1)))
 
 pub key-ids-at-spec : {M : Type 1} → statement M
 key-ids-at-spec =
     tie.close
     (tie.spec
-    has-flag-requires
     option-at-requires
     enum-known-authority
-    has-flag-requires-2
     option-at-requires-2
     enum-known-authority-serial
-    has-flag-requires-3
     option-at-requires-3
     enum-known-subject
     returns
