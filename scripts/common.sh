@@ -36,18 +36,25 @@ version() {
 
 # ---- temporary files, and what is running: both go when the script is stopped
 
-scratch='' child='' stop=''
+scratch='' rooms='' child='' stop=''
 
-tidy() { [ -z "$scratch" ] || rm -rf "$scratch"; }
+tidy() { rm -rf "$scratch" "$rooms"; }
 
-temporary() { scratch=$(mktemp -d 2>/dev/null) || die "no temporary folder can be made"; }
+# `scratch` is a folder for the script alone; in `rooms` others keep what is theirs, and rt lets nobody run a program there.
+temporary() {
+    scratch=$(mktemp -d 2>/dev/null) && rooms=$(mktemp -d 2>/dev/null) && chmod 711 "$rooms" || die "no temporary folder can be made"
+}
 
 # Ends what was started, with all that it has started. A child that has no group yet is ended by its own number.
 end_child() {
     [ -n "$child" ] || return 0
     kill -s KILL -- "-$child" || kill -s KILL "$child"
     wait "$child"
-    kill -s KILL -- "-$child"
+    # the others of the group are gone a moment later
+    for again in 1 2 3 4 5; do
+        kill -s KILL -- "-$child" || break
+        sleep 0.1
+    done
     child=
 } 2>/dev/null
 

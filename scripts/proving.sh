@@ -78,7 +78,7 @@ prove() { # WORDS...
     for crate; do :; done
     total=$(crates_of "$crate")
     say "proving $what: $total crates, less those that are proved already; all of them take some minutes"
-    start sh -c 'cd "$0" && said=$1 && shift && exec "$@" >"$said" 2>&1' "$home" "$scratch/said" "$@" </dev/null
+    start env "TMPDIR=$rooms" sh -c 'cd "$0" && said=$1 && shift && exec "$@" >"$said" 2>&1' "$home" "$scratch/said" "$@" </dev/null
     follow
     finish || not_proved "$?"
 }
