@@ -1,4 +1,4 @@
--- Sections read one after another, each with its value beside the place past it, make one card. Assumes nothing.
+-- Sections read one after another, each with its value beside the place past it, make one card.
 use Prim.Native.Nat.{ℕ}
 use mathlib.Core.Path.{_≡_, refl, sym, ap, _∙_}
 use mathlib.Core.Bool.{Bool, true, false, cond}

@@ -1,4 +1,4 @@
--- The sections of a card file are read from left to right. Assumes nothing.
+-- The sections of a card file are read from left to right.
 use mathlib.Core.List.{List}
 use lib.Dec.{eqb}
 use lib.ListN.{length}

@@ -1,4 +1,4 @@
--- Frauds that no edit of an operand makes: their answers do not satisfy the contract. Assumes nothing.
+-- Frauds that no edit of an operand makes: their answers do not satisfy the contract.
 use Prim.Native.Nat.{ℕ}
 use mathlib.Core.Path.{_≡_, ap, sym, _∙_}
 use mathlib.Core.List.{[]}

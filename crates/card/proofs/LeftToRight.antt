@@ -2,7 +2,6 @@
 -- that byte, whatever stands behind it (`first-fault`). A file that is cut short is so at its end alone: each beginning of it is cut short
 -- (`cut-short`), and a longer file meets its fault only behind it (`fault-behind`). Each proper beginning of a file that is read is cut
 -- short (`beginning-cut`), and bytes behind that file are left over (`read-whole`); bytes are left over nowhere else (`left-over`).
--- Assumes nothing.
 use Prim.Native.Nat.{ℕ, _<_, _≤_}
 use mathlib.Core.Path.{_≡_, refl, sym, _∙_}
 use mathlib.Core.Logic.{_≢_}

@@ -1,4 +1,4 @@
--- A card of fresh sections is the fresh card. Assumes nothing.
+-- A card of fresh sections is the fresh card.
 use mathlib.Core.Path.{_≡_}
 use lib.ListN.{replicate}
 use Rattle.places.specs.Limits.{rootsMost, bundleMost}

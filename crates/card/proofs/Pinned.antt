@@ -1,4 +1,4 @@
--- No two readings tell the same: what `read` promises pins its answer down, a card that was read and a fault alike. Assumes nothing.
+-- No two readings tell the same: what `read` promises pins its answer down, a card that was read and a fault alike.
 use Prim.Native.Nat.{ℕ}
 use mathlib.Core.Path.{_≡_, refl, ap}
 use mathlib.Core.Bool.{cond}

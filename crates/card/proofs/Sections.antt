@@ -1,4 +1,4 @@
--- What a card that was read says: what each of its sections says, and that the file ends with them (`card-read`). Assumes nothing.
+-- What a card that was read says: what each of its sections says, and that the file ends with them (`card-read`).
 use Prim.Native.Nat.{ℕ, _≤_}
 use mathlib.Core.Path.{_≡_, refl}
 use mathlib.Core.Bool.{Bool, true, false, cond}

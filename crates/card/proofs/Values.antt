@@ -1,5 +1,4 @@
 -- What a card that was found says is what a file's reader by value reads, with the same faults in the same order (`content-by-card`).
--- Assumes nothing.
 use Prim.Native.Nat.{ℕ, _≤_}
 use mathlib.Core.Path.{_≡_, refl, sym, ap, _∙_}
 use mathlib.Core.Bool.{Bool, true, false, cond}

@@ -1,4 +1,4 @@
--- What a reading stands for: the number of the reply and the card. Assumes nothing.
+-- What a reading stands for: the number of the reply and the card.
 use Prim.Native.Nat.{ℕ}
 use Rattle.fields.specs.Fields.{Parsed, got, stop}
 use Rattle.fields.specs.Answers.{number}

@@ -1,5 +1,5 @@
 -- Where a card file's sections stand, for readers that copy nothing: in their order, judged from left to right. What is found are
--- numbers and places in the file. Assumes nothing.
+-- numbers and places in the file.
 use Prim.Native.Nat.{ℕ}
 use mathlib.Core.Bool.{cond}
 use mathlib.Core.List.{List}

@@ -1,5 +1,5 @@
 -- What a card file says: certificates, who signed whom, and the task; its sections in their order, judged from left to right
--- (docs/CARD-FILE.md, "Layout"). Assumes nothing.
+-- (docs/CARD-FILE.md, "Layout").
 use Prim.Native.Nat.{ℕ, _+_, _*_}
 use mathlib.Core.Bool.{Bool, cond, _&&_}
 use mathlib.Core.List.{List, []}

@@ -1,4 +1,4 @@
--- What a card's numbers and places say over a file, whatever they are. Assumes nothing.
+-- What a card's numbers and places say over a file, whatever they are.
 use Prim.Native.Nat.{ℕ, _+_, _*_}
 use mathlib.Core.List.{List, map}
 use lib.ListN.{take}

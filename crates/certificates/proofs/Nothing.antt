@@ -1,4 +1,4 @@
--- A list of no records that `Roots::new` and `Bundle::new` promise is the fresh one. Assumes nothing.
+-- A list of no records that `Roots::new` and `Bundle::new` promise is the fresh one.
 use mathlib.Core.Path.{_≡_, ap₂}
 use lib.ListN.{replicate}
 use Rattle.places.specs.Limits.{rootsMost, bundleMost}

@@ -1,5 +1,5 @@
 -- The two lists of certificates in a card file, roots and bundle: how they stand in a file, each after its count, and the record at a
--- place (docs/CARD-FILE.md, "Layout"). What is found are numbers and places in the file. Assumes nothing.
+-- place (docs/CARD-FILE.md, "Layout"). What is found are numbers and places in the file.
 use Prim.Native.Nat.{ℕ, _-_}
 use mathlib.Core.Bool.{cond}
 use mathlib.Core.List.{List, _++_}

@@ -1,5 +1,4 @@
 -- The eleven worked cases that are proved, as one table over the definitions, and one theorem. The program runs the others.
--- Assumes nothing.
 use Prim.Native.Nat.{ℕ}
 use Prim.Native.Char.{code}
 use Prim.Native.String.{String}

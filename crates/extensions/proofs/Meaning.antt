@@ -1,4 +1,4 @@
--- What extensions that were read hold: the limits of their parts, and the lists that stand at their places. Assumes nothing.
+-- What extensions that were read hold: the limits of their parts, and the lists that stand at their places.
 use Prim.Native.Nat.{ℕ, _<_, _≤_}
 use mathlib.Core.Path.{_≡_}
 use mathlib.Core.Bool.{Bool, true, false, cond}

@@ -1,5 +1,5 @@
 -- The extensions of a record by their values are what stands where their reader found them: the parts that the flags announce, and the
--- lists, whatever is made of them (`key-ids-valued`, `extensions-valued`). Assumes nothing.
+-- lists, whatever is made of them (`key-ids-valued`, `extensions-valued`).
 use Prim.Native.Nat.{ℕ}
 use mathlib.Core.Path.{_≡_, refl, sym, _∙_}
 use mathlib.Core.Bool.{Bool, true, false, cond}

@@ -1,5 +1,5 @@
 -- Where a record's extensions stand, for readers that copy nothing: the parts that its flags announce, then its lists, each with its
--- limits, judged from left to right. Assumes nothing.
+-- limits, judged from left to right.
 use Prim.Native.Nat.{ℕ}
 use mathlib.Core.Bool.{Bool, cond}
 use mathlib.Core.List.{List}

@@ -1,4 +1,4 @@
--- What the flags of a record say, and the limits of the parts that they announce (docs/CARD-FILE.md, "Record"). Assumes nothing.
+-- What the flags of a record say, and the limits of the parts that they announce (docs/CARD-FILE.md, "Record").
 use Prim.Native.Nat.{ℕ, _/_, _%_}
 use mathlib.Core.Bool.{Bool}
 use lib.Dec.{eqb}

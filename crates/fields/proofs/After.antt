@@ -1,4 +1,4 @@
--- A thing that was read after another, taken apart: what was read first and what next, for any things. Assumes nothing.
+-- A thing that was read after another, taken apart: what was read first and what next, for any things.
 use Prim.Native.Nat.{ℕ}
 use mathlib.Core.Path.{_≡_, refl}
 use mathlib.Core.Bool.{Bool, true, false, cond}

@@ -1,5 +1,4 @@
 -- A big-endian number, byte by byte: what a loop that takes one byte more needs, and that the number fits its bytes.
--- Assumes nothing.
 use Prim.Native.Nat.{ℕ, _+_, _-_, _*_, _^_, _<_, _≤_}
 use mathlib.Core.Path.{_≡_, refl}
 use mathlib.Core.List.{List, [], _∷_, _++_}

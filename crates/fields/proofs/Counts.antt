@@ -1,5 +1,4 @@
 -- A count by its byte and its range: one law for each answer of a reader of counts, and what a count that was read tells.
--- Assumes nothing.
 use Prim.Native.Nat.{ℕ, _+_, _<_, _≤_}
 use mathlib.Core.Path.{_≡_, refl}
 use mathlib.Core.Bool.{Bool, true, false, cond, _&&_}

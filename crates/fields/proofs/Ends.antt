@@ -1,4 +1,4 @@
--- From where a thing ends to the thing, for any thing. Assumes nothing.
+-- From where a thing ends to the thing, for any thing.
 use Prim.Native.Nat.{ℕ}
 use mathlib.Core.Path.{_≡_}
 use native.Mathlib.Omega.{arith}

@@ -1,5 +1,4 @@
 -- The readers of `specs/Fields` go from left to right: a count and bytes by what they are, the others as readers one after another.
--- Assumes nothing.
 use Prim.Native.Nat.{ℕ, zero, suc, _+_, _<_, _≤_}
 use mathlib.Core.Path.{_≡_, refl, sym, ap, _∙_}
 use mathlib.Core.Bool.{Bool, true, false, cond, _&&_}

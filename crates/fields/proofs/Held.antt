@@ -1,4 +1,4 @@
--- From where a thing ends to what is read after it, where the thing's value does not matter. Assumes nothing.
+-- From where a thing ends to what is read after it, where the thing's value does not matter.
 use Prim.Native.Nat.{ℕ}
 use mathlib.Core.Path.{_≡_, refl, sym, ap, _∙_}
 use Rattle.fields.specs.Fields.{Parsed, got, stop, after}

@@ -1,5 +1,4 @@
 -- No two answers say the same: what an answer stands for pins the answer down, since a fault is found again from its number.
--- Assumes nothing.
 use Prim.Native.Nat.{ℕ}
 use mathlib.Core.Path.{_≡_, refl, sym, ap, ap₂, _∙_}
 use mathlib.Core.Bool.{cond}

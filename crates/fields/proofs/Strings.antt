@@ -1,5 +1,5 @@
 -- A string's span by its length, and a span's bytes: one law for each answer of a reader of strings, what a string that was
--- read tells, and the string by its span. Assumes nothing.
+-- read tells, and the string by its span.
 use Prim.Native.Nat.{ℕ, _+_, _-_, _<_, _≤_}
 use mathlib.Core.Path.{_≡_, refl, sym, ap, _∙_}
 use mathlib.Core.Bool.{Bool, true, false, cond}

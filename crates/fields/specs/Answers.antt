@@ -1,5 +1,4 @@
 -- What each case of an answer stands for: the paper's number of a fault, the values of what was read.
--- Assumes nothing.
 use Prim.Native.Nat.{ℕ}
 use mathlib.Core.Path.{_≡_}
 use Rattle.fields.specs.Fields.{Parsed, got, stop}

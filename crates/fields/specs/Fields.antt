@@ -1,6 +1,5 @@
 -- What stands at a place of a card file: a count, a string, a number, so many of a thing in a row.
 -- Each definition gives the value and the place past it, or the reply's number, judged from left to right.
--- Assumes nothing.
 use Prim.Native.Nat.{ℕ, zero, suc, _+_, _*_}
 use mathlib.Core.Bool.{Bool, cond, _&&_}
 use mathlib.Core.List.{List, [], _∷_}

@@ -1,4 +1,4 @@
--- Where a string stands, for readers that copy nothing: its span, the bytes of a span, and a list that is read again. Assumes nothing.
+-- Where a string stands, for readers that copy nothing: its span, the bytes of a span, and a list that is read again.
 use Prim.Native.Nat.{ℕ, _+_, _-_}
 use mathlib.Core.Bool.{cond, _&&_}
 use mathlib.Core.List.{List, []}

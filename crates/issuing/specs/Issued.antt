@@ -1,4 +1,4 @@
--- Who issued whom (docs/CARD-FILE.md, "Who issued whom"). Assumes nothing.
+-- Who issued whom (docs/CARD-FILE.md, "Who issued whom").
 use Prim.Native.Nat.{ℕ}
 use mathlib.Core.Bool.{Bool, true, _&&_}
 use Rattle.same.specs.Same.{sameDn}

@@ -1,4 +1,4 @@
--- When optional key ids agree, and what `checkAuthKeyId` comes to at each return of `check_auth_key_id`. Assumes nothing.
+-- When optional key ids agree, and what `checkAuthKeyId` comes to at each return of `check_auth_key_id`.
 use Prim.Native.Nat.{ℕ}
 use mathlib.Core.Path.{_≡_}
 use mathlib.Core.Bool.{Bool, true, false}

@@ -1,5 +1,4 @@
 -- The laws of an address held to a range, as the loop of `agrees` and the returns of `ip_addr_in_range` need them.
--- Assumes nothing.
 use Prim.Native.Nat.{ℕ, _+_, _*_, _<_, _≤_}
 use mathlib.Core.Path.{_≡_, refl, _∙_}
 use mathlib.Core.Bool.{Bool, true, false, _&&_, _||_}

@@ -1,4 +1,4 @@
--- When an address lies in a range (upstream's `ip_addr_in_range`). Assumes nothing.
+-- When an address lies in a range (upstream's `ip_addr_in_range`).
 use Prim.Native.Nat.{ℕ, _*_}
 use mathlib.Core.Bool.{Bool, true, _&&_, _||_}
 use mathlib.Core.List.{List, [], _∷_}

@@ -1,4 +1,4 @@
--- When an issuer is the one that a subject names (upstream's `check_auth_key_id`). Assumes nothing.
+-- When an issuer is the one that a subject names (upstream's `check_auth_key_id`).
 use Prim.Native.Nat.{ℕ}
 use mathlib.Core.Bool.{Bool, true, _&&_}
 use mathlib.Core.List.{List}

@@ -1,4 +1,4 @@
--- A usage and a DNS name are read from left to right. Assumes nothing.
+-- A usage and a DNS name are read from left to right.
 use lib.Dec.{leb}
 use Rattle.fields.proofs.Forward.{Forward, value, judged, then}
 use Rattle.fields.proofs.ForwardFields.{byte-forward, string-forward}

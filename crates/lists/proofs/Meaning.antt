@@ -1,4 +1,4 @@
--- What a list that was read holds: as many things as it says, within its limit, each of them what its reader tells. Assumes nothing.
+-- What a list that was read holds: as many things as it says, within its limit, each of them what its reader tells.
 use Prim.Native.Nat.{ℕ, _<_, _≤_}
 use mathlib.Core.Path.{_≡_, sym, _∙_}
 use mathlib.Core.List.{List}

@@ -1,4 +1,4 @@
--- A list by its value is what stands where its reader found it (`run-valued`). Assumes nothing.
+-- A list by its value is what stands where its reader found it (`run-valued`).
 use Prim.Native.Nat.{ℕ}
 use mathlib.Core.Path.{_≡_, sym, _∙_}
 use mathlib.Core.List.{List}

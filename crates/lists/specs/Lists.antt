@@ -1,4 +1,4 @@
--- What the lists of a record hold: usages and DNS names, each within its limit (docs/CARD-FILE.md, "Record"). Assumes nothing.
+-- What the lists of a record hold: usages and DNS names, each within its limit (docs/CARD-FILE.md, "Record").
 use Prim.Native.Nat.{ℕ}
 use mathlib.Core.Bool.{cond}
 use mathlib.Core.List.{List}

@@ -1,5 +1,4 @@
 -- Where a record's lists stand, for readers that copy nothing: how many things a list has and where the first one stands.
--- Assumes nothing.
 use Prim.Native.Nat.{ℕ}
 use mathlib.Core.List.{List}
 use Rattle.fields.specs.Fields.{Parsed, got, after, countP, many}

@@ -1,5 +1,4 @@
 -- What the answer of a reader of attributes tells: the attribute that stands there, whose value is short, or the fault.
--- Assumes nothing.
 use Prim.Native.Nat.{ℕ}
 use mathlib.Core.Path.{_≡_, refl, sym, ap, _∙_}
 use mathlib.Core.List.{List}

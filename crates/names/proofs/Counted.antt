@@ -1,4 +1,4 @@
--- Where a count and so many things end: where the things do (`counted-ends`), and nowhere without the count (`uncounted`). Assumes nothing.
+-- Where a count and so many things end: where the things do (`counted-ends`), and nowhere without the count (`uncounted`).
 use Prim.Native.Nat.{ℕ}
 use mathlib.Core.List.{List}
 use mathlib.Core.Path.{_≡_}

@@ -1,4 +1,4 @@
--- An attribute, an RDN and a name are read from left to right. Assumes nothing.
+-- An attribute, an RDN and a name are read from left to right.
 use Rattle.fields.proofs.Forward.{Forward, at-hand, then}
 use Rattle.fields.proofs.ForwardFields.{string-forward, counted-forward}
 use Rattle.names.specs.Names.{oidMost, valueMost, rdnMost, nameMost, attrP, rdnP, nameP}

@@ -1,5 +1,5 @@
 -- Arguments that are judged through, for any thing: what a reader of a whole argument has to show at each of its returns, and what
--- its answer tells of the argument. Assumes nothing.
+-- its answer tells of the argument.
 use Prim.Native.Nat.{ℕ, _<_, _≤_}
 use mathlib.Core.Path.{_≡_, refl, sym, ap, _∙_}
 use mathlib.Core.Bool.{Bool, true, false, cond}

@@ -1,4 +1,4 @@
--- What each case of an answer stands for, and what stands at the places that it tells. Assumes nothing.
+-- What each case of an answer stands for, and what stands at the places that it tells.
 use Prim.Native.Nat.{ℕ, _≤_}
 use mathlib.Core.List.{List}
 use lib.ListN.{length}

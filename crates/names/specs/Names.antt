@@ -1,4 +1,4 @@
--- What an attribute, an RDN and a name are, as the card file has them. Assumes nothing.
+-- What an attribute, an RDN and a name are, as the card file has them.
 use Prim.Native.Nat.{ℕ}
 use mathlib.Core.List.{List}
 use Rattle.fields.specs.Fields.{Parsed, got, after, stringP, countedP}

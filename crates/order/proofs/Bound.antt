@@ -1,4 +1,4 @@
--- How many paths can wait at once: of n certificates never more than the printed table has slots for n. Assumes nothing.
+-- How many paths can wait at once: of n certificates never more than the printed table has slots for n.
 use mathlib.Core.List.{List, [], _∷_, _++_, List·Memᴰ·head as here, List·Memᴰ·tail as there}
 use mathlib.Core.Logic.{⊎-elim}
 use mathlib.Core.Path.{_≡_, refl}

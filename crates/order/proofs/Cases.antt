@@ -1,4 +1,4 @@
--- The paper's case, n = 4 and all issue all: 16 paths, in this order, and at most 4 wait. Assumes nothing.
+-- The paper's case, n = 4 and all issue all: 16 paths, in this order, and at most 4 wait.
 use mathlib.Core.Bool.{true}
 use mathlib.Core.List.{List, [], _∷_, flatMap}
 use mathlib.Core.Path.{refl}

@@ -1,4 +1,4 @@
--- Laws of `slotsOf`: where it is the formula, where it is 0, and what lies between. Assumes nothing.
+-- Laws of `slotsOf`: where it is the formula, where it is 0, and what lies between.
 use mathlib.Core.Path.{_≡_}
 use mathlib.Core.Logic.{⊎-elim}
 use Prim.Native.Nat.{ℕ, _+_, _-_, _*_, _/_, _≤_, _<_}

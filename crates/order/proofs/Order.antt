@@ -1,4 +1,4 @@
--- `Before` is what the paper says in words, and a strict total order. Assumes nothing.
+-- `Before` is what the paper says in words, and a strict total order.
 use mathlib.Core.List.{List, [], _∷_, _++_}
 use mathlib.Core.Logic.{_↔_, _≢_, _⊎_, inl, inr, ⊎-elim}
 use mathlib.Core.Path.{_≡_, refl, sym, ap, _∙_}

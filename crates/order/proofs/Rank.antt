@@ -1,5 +1,5 @@
 -- A path's rank is its place in the listing, counted from 1: each simple path has one rank, two have two, and there is one number of simple
--- paths. Assumes nothing.
+-- paths.
 use mathlib.Core.List.{List, []}
 use mathlib.Core.Path.{_≡_, refl, sym, ap, _∙_}
 use Prim.Native.Nat.{ℕ, suc, _<_}

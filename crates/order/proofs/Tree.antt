@@ -1,4 +1,4 @@
--- The walk of the tree lists the simple paths: there is a listing, and only one. Assumes nothing.
+-- The walk of the tree lists the simple paths: there is a listing, and only one.
 use mathlib.Core.List.{List, [], _∷_, _++_, flatMap, append-assoc, append-nil, concat-ne-nil, List·Memᴰ·head as here, List·Memᴰ·tail as there, List·Memᴰ·not-nil, List·Memᴰ·cases-cons, List·Memᴰ·eq-of-singleton, Memᴰ·map, Memᴰ·of-map}
 use mathlib.Core.Logic.{_⊎_, inl, inr, ⊎-elim}
 use mathlib.Core.Path.{_≡_, refl, sym, ap, _∙_}

@@ -1,4 +1,4 @@
--- What waits after k steps: it exists, there is only one, and how it goes from one step to the next, from the first to the end. Assumes nothing.
+-- What waits after k steps: it exists, there is only one, and how it goes from one step to the next, from the first to the end.
 use mathlib.Core.List.{List, [], _∷_, _++_, flatMap, List·Memᴰ·head as here, List·Memᴰ·not-nil, Memᴰ·append-right}
 use mathlib.Core.Logic.{_↔_, ⊎-elim}
 use mathlib.Core.Path.{_≡_, refl, sym, ap, _∙_}

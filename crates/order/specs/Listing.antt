@@ -1,4 +1,4 @@
--- A list given by its elements and their order, with no word of how it is found. Assumes nothing.
+-- A list given by its elements and their order, with no word of how it is found.
 use mathlib.Core.List.{List, [], _∷_, List·Memᴰ}
 
 -- x stands in xs

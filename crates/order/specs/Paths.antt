@@ -1,4 +1,4 @@
--- Simple paths, their order, a path's rank and their number. A path is the list of its places. Assumes nothing.
+-- Simple paths, their order, a path's rank and their number. A path is the list of its places.
 use mathlib.Core.Bool.{Bool, true}
 use mathlib.Core.List.{List, [], _∷_}
 use mathlib.Core.Logic.{_≢_, _⊎_}

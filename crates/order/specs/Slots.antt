@@ -1,4 +1,4 @@
--- The slots that the waiting paths of n certificates need. Assumes nothing.
+-- The slots that the waiting paths of n certificates need.
 use mathlib.Core.Bool.{cond, _&&_}
 use Prim.Native.Nat.{ℕ, _+_, _-_, _*_, _/_}
 use lib.Dec.{leb}

@@ -1,4 +1,4 @@
--- What waits after k steps. A step takes one path: after k steps the first k of the listing are taken. Assumes nothing.
+-- What waits after k steps. A step takes one path: after k steps the first k of the listing are taken.
 use mathlib.Core.List.{List, [], _∷_, dropLast}
 use mathlib.Core.Logic.{_⊎_}
 use mathlib.Core.Path.{_≡_}

@@ -1,5 +1,5 @@
 -- The simple paths as a program can follow them: a walk of the tree, and upstream's stack. A reader need not
--- believe this file: the theorems of proofs/ say that its paths and its stack are those of Paths and Waiting. Assumes nothing.
+-- believe this file: the theorems of proofs/ say that its paths and its stack are those of Paths and Waiting.
 use mathlib.Core.Bool.{Bool, true, false, not, _&&_, _||_}
 use mathlib.Core.List.{List, [], _∷_, _++_, map, flatMap}
 use Prim.Native.Nat.{ℕ, zero, suc, _-_}

@@ -1,4 +1,4 @@
--- The lowest place that passes a test, in words: `seek-least`. Assumes nothing.
+-- The lowest place that passes a test, in words: `seek-least`.
 use Prim.Native.Nat.{ℕ, zero, suc, _+_, _≤_, _<_}
 use mathlib.Core.Bool.{Bool, true, false, cond}
 use mathlib.Core.Logic.{⊎-elim}

@@ -1,4 +1,4 @@
--- How many roots and how many certificates a card has at most. Assumes nothing.
+-- How many roots and how many certificates a card has at most.
 use Prim.Native.Nat.{ℕ}
 
 abbrev pub rootsMost : ℕ

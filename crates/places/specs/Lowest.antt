@@ -1,4 +1,4 @@
--- The lowest place that passes a test. Assumes nothing.
+-- The lowest place that passes a test.
 use mathlib.Core.Bool.{Bool, cond}
 use Prim.Native.Nat.{ℕ, zero, suc, _+_}
 

@@ -1,6 +1,5 @@
 -- One place more. `begun-is`, `over-stands`, `over-lacks`, `added-full`, `added-is`: what the code answers, branch by branch. `standing-more`: how a
--- path stands is how it stood before its last place, and that place added; `over-more`: its roots are those over that place then. Assumes
--- nothing.
+-- path stands is how it stood before its last place, and that place added; `over-more`: its roots are those over that place then.
 use Prim.Native.Nat.{ℕ, _+_, _-_, _≤_, _<_}
 use mathlib.Core.Bool.{true, false}
 use mathlib.Core.List.{List, [], _∷_, _++_}

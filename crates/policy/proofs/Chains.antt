@@ -1,5 +1,5 @@
 -- The policy by where a certificate stands: what a chain is asked rule by rule is what its leaf, each certificate between and its
--- root are asked. Assumes nothing.
+-- root are asked.
 use Prim.Native.Nat.{ℕ, _+_}
 use mathlib.Core.Path.{_≡_, refl, sym, ap, _∙_}
 use mathlib.Core.Bool.{Bool, true, false, _&&_}

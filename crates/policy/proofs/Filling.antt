@@ -1,6 +1,6 @@
 -- Filling the seats: each is put in the row of its limit (`entering-starts`, `entering-turn`, `entering-ends`), then each row is handed on
 -- to the one before it (`handing-starts`, `handing-turn`, `handing-ends`); and the seats of both parts (`limited`, `seats-filled`); `second-lent`,
--- `second-back` for lending the second. Assumes nothing.
+-- `second-back` for lending the second.
 use Prim.Native.Nat.{ℕ, _+_, _-_, _≤_, _<_, min}
 use mathlib.Core.Bool.{Bool, true, false, cond, not, _&&_, _||_, and-true, and-false, and-not-self, or-false, false≢true}
 use mathlib.Core.List.{List, [], _∷_, _++_}

@@ -1,4 +1,4 @@
--- A fraud that no edit of an operand makes, key usage asked of the leaf: its answer does not satisfy the contract. Assumes nothing.
+-- A fraud that no edit of an operand makes, key usage asked of the leaf: its answer does not satisfy the contract.
 use Prim.Native.Nat.{ℕ}
 use mathlib.Core.Path.{_≡_, refl}
 use mathlib.Core.Bool.{true, false}

@@ -1,4 +1,4 @@
--- What filling the seats promises (src/seating.rt), of the places or of the roots alike. Assumes nothing.
+-- What filling the seats promises (src/seating.rt), of the places or of the roots alike.
 use Prim.Native.Nat.{ℕ, _≤_, _<_, min}
 use mathlib.Core.Bool.{false, _&&_}
 use mathlib.Core.List.{List}

@@ -1,5 +1,5 @@
 -- A path judged by the facts of its certificates: the first place is sound as the leaf, each one after it may stand where it does, and a
--- root that issued the last may stand above. Assumes nothing.
+-- root that issued the last may stand above.
 use Prim.Native.Nat.{ℕ, _+_}
 use mathlib.Core.Bool.{Bool, true, false, _&&_}
 use mathlib.Core.List.{List, [], _∷_}

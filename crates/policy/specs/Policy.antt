@@ -1,4 +1,4 @@
--- The policy on a chain (docs/CARD-FILE.md, "Policy"). Assumes nothing.
+-- The policy on a chain (docs/CARD-FILE.md, "Policy").
 use Prim.Native.Nat.{ℕ, _+_}
 use mathlib.Core.Bool.{Bool, true, _&&_}
 use mathlib.Core.List.{List, [], _∷_, _++_, map}

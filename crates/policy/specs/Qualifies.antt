@@ -1,4 +1,4 @@
--- By which roots a path qualifies at a time (docs/CARD-FILE.md, "Policy"). Assumes nothing.
+-- By which roots a path qualifies at a time (docs/CARD-FILE.md, "Policy").
 use Prim.Native.Nat.{ℕ}
 use mathlib.Core.Bool.{Bool, false, _&&_}
 use mathlib.Core.List.{List, [], _∷_}

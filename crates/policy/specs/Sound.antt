@@ -1,5 +1,5 @@
 -- What is judged once per certificate: what the policy asks of it by where it stands in a chain, its path length aside, and its
--- limit; and all the facts of a card that a search asks (`judgedOf`). Assumes nothing.
+-- limit; and all the facts of a card that a search asks (`judgedOf`).
 use Prim.Native.Nat.{ℕ}
 use mathlib.Core.Bool.{Bool, cond, _&&_}
 use mathlib.Core.List.{List}

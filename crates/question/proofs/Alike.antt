@@ -1,5 +1,5 @@
 -- Two alike certificates stay two: a path that goes on by one of them can go on by the other (`alike-paths`), and these are two paths, of
--- two ranks (`alike-ranks`). Assumes nothing.
+-- two ranks (`alike-ranks`).
 use mathlib.Core.List.{List, [], _∷_, _++_}
 use mathlib.Core.Logic.{_↔_, _≢_}
 use mathlib.Core.Path.{_≡_, sym, ap, ap₂, _∙_}

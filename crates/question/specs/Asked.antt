@@ -1,4 +1,4 @@
--- What a content asks: its places, and which roots a path reaches under the policy (docs/CARD-FILE.md, "The search"). Assumes nothing.
+-- What a content asks: its places, and which roots a path reaches under the policy (docs/CARD-FILE.md, "The search").
 use lib.ListN.{length}
 use Rattle.card.specs.Content.{Content, bundled}
 use Rattle.issuing.specs.Issued.{issued}

@@ -1,4 +1,4 @@
--- What a file's question is, and what it asks of those who answer it. Assumes nothing.
+-- What a file's question is, and what it asks of those who answer it.
 use mathlib.Core.List.{List}
 use Prim.Native.Nat.{ℕ}
 use lib.ListN.{getD}

@@ -1,4 +1,4 @@
--- The flags and a certificate are read from left to right. Assumes nothing.
+-- The flags and a certificate are read from left to right.
 use Rattle.fields.proofs.Forward.{Forward, value, at-hand, judged, then}
 use Rattle.fields.proofs.ForwardFields.{byte-forward, string-forward, big-forward, optional-forward, counted-forward}
 use Rattle.names.proofs.Forward.{name-forward}

@@ -1,5 +1,5 @@
 -- What a record that was read says: the limits of its parts, the names and lists that stand at its places, and the certificate.
--- One record of facts for each group of parts. Assumes nothing.
+-- One record of facts for each group of parts.
 use Prim.Native.Nat.{ℕ, _+_, _<_, _≤_}
 use mathlib.Core.Path.{_≡_, refl, sym, ap, _∙_}
 use mathlib.Core.Bool.{true}

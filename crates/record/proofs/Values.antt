@@ -1,5 +1,4 @@
 -- What a record that was found says is what its certificate's reader reads there, with the same faults (`certificate-by-record`).
--- Assumes nothing.
 use Prim.Native.Nat.{ℕ, _+_, _≤_}
 use mathlib.Core.Path.{_≡_, sym, ap, _∙_}
 use mathlib.Core.List.{List}

@@ -1,5 +1,5 @@
 -- A certificate, and how a card file has it: its parts in their order, each with its limits, judged from left to right
--- (docs/CARD-FILE.md, "Record"). Assumes nothing.
+-- (docs/CARD-FILE.md, "Record").
 use Prim.Native.Nat.{ℕ}
 use mathlib.Core.Bool.{Bool, cond, _&&_, _||_, not}
 use mathlib.Core.List.{List}

@@ -1,4 +1,4 @@
--- What stands where nothing was read. Assumes nothing.
+-- What stands where nothing was read.
 use Rattle.fields.specs.Spans.{nowhere}
 use Rattle.lists.specs.declared.Run.{Run}
 use Rattle.extensions.specs.declared.KeyIds.{KeyIds}

@@ -1,5 +1,5 @@
 -- What stands at a record's places over a file, whatever they are, and the certificate that it makes; nothing where it can't be
--- read. Assumes nothing.
+-- read.
 use Prim.Native.Nat.{ℕ, _+_}
 use mathlib.Core.List.{List}
 use Rattle.fields.specs.Fields.{Parsed, got, stop, many}

@@ -1,5 +1,5 @@
 -- Two meanings of the roots that agree on every simple path: what settles the search by one settles it by the other, so that a caller
--- can put its own words for who qualifies. Assumes nothing.
+-- can put its own words for who qualifies.
 use mathlib.Core.List.{List}
 use Prim.Native.Nat.{ℕ}
 use Rattle.order.specs.Paths.{Places, Simple}

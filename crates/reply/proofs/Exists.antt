@@ -1,4 +1,4 @@
--- Each search is settled: by reading the listing, path by path. Assumes nothing.
+-- Each search is settled: by reading the listing, path by path.
 use mathlib.Core.Bool.{Bool, true, false, cond}
 use mathlib.Core.List.{List, [], _∷_, List·Memᴰ·not-nil}
 use mathlib.Core.Path.{_≡_, refl, sym, ap, _∙_}

@@ -1,4 +1,4 @@
--- What stands in the way of a search, by its tests, and what is answered then. Assumes nothing.
+-- What stands in the way of a search, by its tests, and what is answered then.
 use mathlib.Core.Bool.{Bool, true, false, cond, _&&_}
 use mathlib.Core.List.{List, []}
 use mathlib.Core.Logic.{_⊎_, inl, inr}

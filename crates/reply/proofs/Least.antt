@@ -1,4 +1,4 @@
--- The lowest root of a path: what it says of the path's roots. Assumes nothing.
+-- The lowest root of a path: what it says of the path's roots.
 use mathlib.Core.Bool.{false≢true}
 use mathlib.Core.List.{List}
 use mathlib.Core.Path.{sym, _∙_}

@@ -1,4 +1,4 @@
--- Bytes written to a room, one after another: what loops that write slots or zeros have done after each turn. Assumes nothing.
+-- Bytes written to a room, one after another: what loops that write slots or zeros have done after each turn.
 use mathlib.Core.Path.{_≡_, refl, sym, ap, _∙_}
 use mathlib.Core.List.{List, [], _∷_, _++_}
 use Prim.Native.Nat.{ℕ, zero, suc, _+_, _-_, _≤_, _<_, zero-le}

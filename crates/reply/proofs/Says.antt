@@ -1,4 +1,4 @@
--- An answer by its two parts: the reply and the path that an outcome, or an error, is answered with. Assumes nothing.
+-- An answer by its two parts: the reply and the path that an outcome, or an error, is answered with.
 use Prim.Native.Nat.{ℕ}
 use mathlib.Core.Path.{_≡_, refl, sym, ap, ap₂, _∙_}
 use mathlib.Core.List.{List, []}

@@ -1,4 +1,4 @@
--- What is settled after k paths of the listing are taken, none of which qualifies. Assumes nothing.
+-- What is settled after k paths of the listing are taken, none of which qualifies.
 use mathlib.Core.List.{List, [], List·Memᴰ·append-cases, List·Memᴰ·eq-of-singleton}
 use mathlib.Core.Logic.{⊎-elim}
 use mathlib.Core.Path.{_≡_, refl, _∙_}

@@ -1,4 +1,4 @@
--- A path as it is handed out, place by place. Assumes nothing.
+-- A path as it is handed out, place by place.
 use mathlib.Core.Bool.{Bool, true, false}
 use mathlib.Core.Path.{_≡_, refl, sym, ap, _∙_}
 use mathlib.Core.List.{List, [], _∷_, _++_, map}

@@ -1,4 +1,4 @@
--- What is answered, and what is left in the room. Assumes nothing.
+-- What is answered, and what is left in the room.
 use mathlib.Core.Bool.{cond}
 use mathlib.Core.List.{List, [], map}
 use mathlib.Core.Path.{_≡_}

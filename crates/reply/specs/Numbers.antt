@@ -1,4 +1,4 @@
--- Cases and replies in numbers, as the code and C have them; the search's promise does not use them. Assumes nothing.
+-- Cases and replies in numbers, as the code and C have them; the search's promise does not use them.
 use Prim.Native.Nat.{ℕ}
 use mathlib.Core.List.{List, []}
 use Rattle.places.specs.declared.BundlePlace.{BundlePlace}

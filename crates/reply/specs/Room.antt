@@ -1,4 +1,4 @@
--- The lent room: how much is needed, and what it holds after the search. Assumes nothing.
+-- The lent room: how much is needed, and what it holds after the search.
 use mathlib.Core.Bool.{Bool, _&&_}
 use mathlib.Core.List.{List, []}
 use mathlib.Core.Path.{_≡_}

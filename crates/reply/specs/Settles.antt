@@ -1,5 +1,5 @@
 -- What the search replies: the first path, in the order of paths, that reaches a root under the policy (docs/CARD-FILE.md, "The
--- search"). Assumes nothing.
+-- search").
 use mathlib.Core.Bool.{Bool, true}
 use mathlib.Core.List.{List}
 use mathlib.Core.Path.{_≡_}

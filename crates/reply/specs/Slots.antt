@@ -1,4 +1,4 @@
--- Paths in slots: a length, then as many places as a path can have. Assumes nothing.
+-- Paths in slots: a length, then as many places as a path can have.
 use Prim.Native.Nat.{ℕ, _+_, _-_}
 use mathlib.Core.List.{List, _∷_, _++_}
 use lib.ListN.{length, replicate}

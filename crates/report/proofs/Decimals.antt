@@ -1,4 +1,4 @@
--- A number in decimal: its digits one by one, how many there are, and that `io::decimal` writes them. Assumes nothing.
+-- A number in decimal: its digits one by one, how many there are, and that `io::decimal` writes them.
 use mathlib.Core.Bool.{Bool, true, false, cond}
 use mathlib.Core.List.{List, [], _∷_, _++_}
 use mathlib.Core.Path.{_≡_, refl, ap, sym}

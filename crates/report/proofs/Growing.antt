@@ -1,4 +1,4 @@
--- A line under way grows at its end. Assumes nothing.
+-- A line under way grows at its end.
 use mathlib.Core.List.{List, _++_}
 use mathlib.Core.Path.{_≡_, ap, ap₂, sym, _∙_}
 use Prim.Native.Nat.{ℕ, _+_, _-_, _≤_}

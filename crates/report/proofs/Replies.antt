@@ -1,4 +1,4 @@
--- The line for each case of a reply. Assumes nothing.
+-- The line for each case of a reply.
 use mathlib.Core.List.{_++_}
 use mathlib.Core.Path.{_≡_}
 use Prim.Native.Nat.{ℕ}

@@ -1,5 +1,4 @@
 -- The room is always enough, so reply 10 is never given in it (`never-ten`), and one line replies to a file (`one-line`).
--- Assumes nothing.
 use mathlib.Core.Bool.{true}
 use mathlib.Core.List.{List, _++_}
 use mathlib.Core.Logic.{⊎-elim}

@@ -1,4 +1,4 @@
--- The line that is written for an answer (docs/CARD-FILE.md, "Replies"). Assumes nothing.
+-- The line that is written for an answer (docs/CARD-FILE.md, "Replies").
 use mathlib.Core.List.{List, [], _∷_, _++_, map}
 use Prim.Native.Nat.{ℕ, _+_, _-_, _*_}
 use lib.ListN.{length, take, replicate}

@@ -1,4 +1,4 @@
--- What is written for a card file. Assumes nothing.
+-- What is written for a card file.
 use mathlib.Core.List.{List}
 use mathlib.Core.Path.{_≡_}
 use Prim.Native.Nat.{ℕ, _*_}

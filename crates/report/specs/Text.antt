@@ -1,4 +1,4 @@
--- Words and numbers as bytes. Assumes nothing.
+-- Words and numbers as bytes.
 use mathlib.Core.Bool.{cond}
 use mathlib.Core.List.{List, [], _∷_, _++_}
 use Prim.Native.Nat.{ℕ, zero, suc, _+_, _/_, _%_}

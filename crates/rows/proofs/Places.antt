@@ -3,7 +3,7 @@
 -- The row of a test: `has-row`; `row-none`, `row-more`, `row-kept` for a loop.
 -- The lowest place: `lowest-least`. A row without one of its places: `has-dropped`. A loop over a row's places is in Taking, the
 -- highest place in Upper; that a row is no more than its places, in Same.
--- What the code's words say of a row is in Words. Assumes nothing.
+-- What the code's words say of a row is in Words.
 use Prim.Native.Nat.{ℕ, zero, suc, _+_, _/_, _%_, _^_, _≤_, _<_}
 use mathlib.Core.Bool.{Bool, true, false, cond, not, _&&_, _||_, false≢true}
 use mathlib.Core.Path.{_≡_, refl, sym, ap, _∙_}

@@ -1,4 +1,4 @@
--- What the code's shift, mask and count of zeros say of a row. Assumes nothing.
+-- What the code's shift, mask and count of zeros say of a row.
 use Prim.Native.Nat.{ℕ, zero, suc, _+_, _*_, _/_, _%_, _^_, _≤_, _<_}
 use mathlib.Core.Bool.{cond, not}
 use mathlib.Core.Path.{_≡_, refl, sym, ap, _∙_}

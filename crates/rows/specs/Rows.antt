@@ -1,4 +1,4 @@
--- A set of places as the bits of a number. Assumes nothing.
+-- A set of places as the bits of a number.
 use Prim.Native.Nat.{ℕ, zero, suc, _-_, _/_, _%_, _^_}
 use mathlib.Core.Bool.{Bool, cond, _&&_}
 use mathlib.Core.List.{List, [], _∷_, _++_}

@@ -1,4 +1,4 @@
--- Frauds that no edit of an operand makes: their answers do not satisfy the contract. Assumes nothing.
+-- Frauds that no edit of an operand makes: their answers do not satisfy the contract.
 use mathlib.Core.Path.{_≡_}
 use mathlib.Core.Bool.{false, false≢true}
 use mathlib.Core.List.{[], _∷_}

@@ -1,5 +1,5 @@
 -- What is asked of the leaf by the runs of its record is what is asked of the certificate, where the record stands in the file:
--- usages (`for-servers-read`) and the host (`for-host-read`). Assumes nothing.
+-- usages (`for-servers-read`) and the host (`for-host-read`).
 use Prim.Native.Nat.{ℕ}
 use mathlib.Core.Path.{_≡_}
 use mathlib.Core.List.{List}

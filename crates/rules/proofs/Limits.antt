@@ -1,6 +1,5 @@
 -- A certificate's limit: its path length where it has one (`limit-given`), and else none (`no-limit`). A path length is a byte
 -- (`path-length-byte`). Of as many certificates as a path can have the limit says what the path length allows (`limit-allows`).
--- Assumes nothing.
 use Prim.Native.Nat.{ℕ, _≤_}
 use mathlib.Core.Path.{_≡_, refl}
 use mathlib.Core.Bool.{true, false}

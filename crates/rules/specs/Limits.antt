@@ -1,4 +1,4 @@
--- The path-length rule as one number for each certificate; the law `limit-allows` says that it comes to the rule. Assumes nothing.
+-- The path-length rule as one number for each certificate; the law `limit-allows` says that it comes to the rule.
 use Prim.Native.Nat.{ℕ}
 use mathlib.Core.Option.{Option, none, some}
 use Rattle.record.specs.Certificate.{Certificate}

@@ -1,5 +1,4 @@
--- What Rules asks of the leaf's usages and DNS names, asked of a record's runs as they are, whether a reader made them or not. Assumes
--- nothing.
+-- What Rules asks of the leaf's usages and DNS names, asked of a record's runs as they are, whether a reader made them or not.
 use Prim.Native.Nat.{ℕ, zero, suc}
 use mathlib.Core.Bool.{Bool, false, _||_}
 use mathlib.Core.List.{List}

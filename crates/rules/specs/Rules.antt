@@ -1,4 +1,4 @@
--- What is asked of one certificate (docs/CARD-FILE.md, "Policy"). Assumes nothing.
+-- What is asked of one certificate (docs/CARD-FILE.md, "Policy").
 use Prim.Native.Nat.{ℕ}
 use mathlib.Core.Bool.{Bool, true, not, _&&_, _||_}
 use mathlib.Core.List.{List, map}

@@ -1,5 +1,5 @@
 -- What a relation of two arguments answers, for any things and any relation: where one of them is bad (`first-bad`, `second-bad`),
--- and where both are fine and were walked side by side (`walked`). Assumes nothing.
+-- and where both are fine and were walked side by side (`walked`).
 use Prim.Native.Nat.{ℕ}
 use mathlib.Core.Path.{_≡_, refl}
 use mathlib.Core.Bool.{Bool, true, false, cond}

@@ -1,5 +1,4 @@
 -- Two attributes compared in the code's order: OIDs, then values as they stand, then their normal forms where the flag asks for them.
--- Assumes nothing.
 use Prim.Native.Nat.{ℕ}
 use mathlib.Core.Path.{_≡_, sym}
 use mathlib.Core.Bool.{Bool, true, false, cond}

@@ -1,5 +1,4 @@
 -- An attribute looked for among those that stand in a row: found at the first, not at the first, or nothing is left to look at.
--- Assumes nothing.
 use Prim.Native.Nat.{ℕ, _-_, _<_, _≤_}
 use mathlib.Core.Path.{_≡_, refl}
 use mathlib.Core.Bool.{Bool, true, false, cond}

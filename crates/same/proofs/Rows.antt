@@ -1,5 +1,5 @@
 -- Rows with their counts before them: what a row that was read holds (`row-read`, of an RDN `rdn-row`), and whether what stands in two
--- of them is related (`standing-judged`). Assumes nothing.
+-- of them is related (`standing-judged`).
 use Prim.Native.Nat.{ℕ}
 use mathlib.Core.Path.{_≡_, refl, sym, ap, _∙_}
 use mathlib.Core.Bool.{Bool, cond}

@@ -1,4 +1,4 @@
--- Two names that were read are the same by their bytes or by their parts exactly where they are the same. Assumes nothing.
+-- Two names that were read are the same by their bytes or by their parts exactly where they are the same.
 use Prim.Native.Nat.{ℕ, _≤_}
 use mathlib.Core.Path.{_≡_, refl, sym, ap, _∙_}
 use mathlib.Core.Bool.{Bool, true, false, _||_}

@@ -1,4 +1,4 @@
--- What each answer stands for, and what a relation of two encoded arguments answers. Assumes nothing.
+-- What each answer stands for, and what a relation of two encoded arguments answers.
 use Prim.Native.Nat.{ℕ}
 use mathlib.Core.Bool.{Bool, false, cond, _||_}
 use mathlib.Core.List.{List}

@@ -1,4 +1,4 @@
--- An RDN looked through for the attributes of another, wherever they stand. Assumes nothing.
+-- An RDN looked through for the attributes of another, wherever they stand.
 use mathlib.Core.Bool.{Bool}
 use mathlib.Core.List.{List}
 use Rattle.text.specs.Each.{any, all}

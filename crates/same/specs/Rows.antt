@@ -1,5 +1,4 @@
 -- What looking for an attribute in an RDN comes to, each read where it stands. No contract of a published function cites this page.
--- Assumes nothing.
 use Prim.Native.Nat.{ℕ, zero, suc}
 use mathlib.Core.Bool.{Bool, false}
 use mathlib.Core.List.{List, [], _∷_}

@@ -1,5 +1,4 @@
 -- When two attributes, RDNs or names are the same, each by the flag that says whether values are compared in normal form.
--- Assumes nothing.
 use mathlib.Core.Bool.{Bool, true, false, cond, _&&_}
 use mathlib.Core.List.{List, [], _∷_}
 use lib.ListN.{length}

@@ -1,4 +1,4 @@
--- What a walk of two things side by side answers. Assumes nothing.
+-- What a walk of two things side by side answers.
 use mathlib.Core.Bool.{Bool, cond}
 use Rattle.fields.specs.Fields.{Parsed, got, stop}
 use Rattle.same.specs.declared.walk.Walk.{Walk}

@@ -1,5 +1,5 @@
 -- From what a file asks to what it is answered, at whatever time: an answer to the file's question is one to its content (`searched`,
--- `held-paused`). Assumes nothing.
+-- `held-paused`).
 use mathlib.Core.List.{List}
 use mathlib.Core.Path.{_≡_, ap}
 use Prim.Native.Nat.{ℕ}

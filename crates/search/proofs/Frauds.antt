@@ -1,5 +1,5 @@
 -- Frauds of the search, each on a card and in every room that is enough for it: the fraud's answer is not what `search` or `paused`
--- promises. Assumes nothing.
+-- promises.
 use Prim.Native.Nat.{ℕ, _<_}
 use mathlib.Core.Bool.{true}
 use mathlib.Core.List.{List, [], _∷_}

@@ -1,5 +1,5 @@
 -- What the paused run leaves is pinned for every k: the paths that wait after the steps it tells (`waiting-pinned`), never more than the
--- table's slots (`waiting-few`). Assumes nothing.
+-- table's slots (`waiting-few`).
 use mathlib.Core.List.{List}
 use mathlib.Core.Path.{_≡_, refl}
 use Prim.Native.Nat.{ℕ, _≤_}

@@ -1,5 +1,5 @@
 -- Every list of bytes, budget and room is answered in exactly one way: no two answers or final rooms satisfy what `search` and `paused`
--- promise (`search-one`, `pause-one`), and some do (`search-some`, `pause-some`). Assumes nothing.
+-- promise (`search-one`, `pause-one`), and some do (`search-some`, `pause-some`).
 use mathlib.Core.List.{List}
 use Prim.Native.Nat.{ℕ}
 use lib.ListN.{length}

@@ -1,4 +1,4 @@
--- What is answered to a card file (docs/CARD-FILE.md, "The search" and "Replies"). Assumes nothing.
+-- What is answered to a card file (docs/CARD-FILE.md, "The search" and "Replies").
 use mathlib.Core.List.{List}
 use Prim.Native.Nat.{ℕ}
 use lib.ListN.{length}

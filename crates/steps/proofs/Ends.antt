@@ -1,4 +1,4 @@
--- How a walk ends: from any stack, and what that settles where it began with the leaf alone. Assumes nothing.
+-- How a walk ends: from any stack, and what that settles where it began with the leaf alone.
 use mathlib.Core.List.{List, [], _∷_, head-eq-of-cons-eq, List·Memᴰ·not-nil, List·Memᴰ·append-cases, List·Memᴰ·eq-of-singleton}
 use mathlib.Core.Logic.{⊎-elim}
 use mathlib.Core.Path.{_≡_, refl, ap, _∙_}

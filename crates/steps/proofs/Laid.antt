@@ -1,4 +1,4 @@
--- The rows of a walk as paths in the slots, depth by depth. Assumes nothing.
+-- The rows of a walk as paths in the slots, depth by depth.
 use mathlib.Core.Bool.{Bool, true, false}
 use mathlib.Core.List.{List, [], _∷_, _++_, map, append-assoc, Memᴰ·of-map, List·Memᴰ·append-cases, List·Memᴰ·not-nil}
 use mathlib.Core.Logic.{⊎-elim}

@@ -1,4 +1,4 @@
--- The lowest root of a path is the lowest place of its row of roots. Assumes nothing.
+-- The lowest root of a path is the lowest place of its row of roots.
 use mathlib.Core.Bool.{false≢true}
 use mathlib.Core.List.{List}
 use mathlib.Core.Path.{_≡_, sym, ap, _∙_}

@@ -1,5 +1,5 @@
 -- What waits, by depths: the highest place of the deepest row is the top path's last, and what the top path's children go on by is a row
--- of its own. Assumes nothing.
+-- of its own.
 use mathlib.Core.Bool.{Bool, true, false, not, _&&_, _||_, false≢true}
 use mathlib.Core.List.{List, [], _∷_, _++_, map, List·Memᴰ·head as here, List·Memᴰ·tail as there, List·Memᴰ·append-cases, List·Memᴰ·eq-of-singleton}
 use mathlib.Core.Logic.{⊎-elim}

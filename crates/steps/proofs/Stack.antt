@@ -1,4 +1,4 @@
--- The path of a slot, and the room that holds paths. Assumes nothing.
+-- The path of a slot, and the room that holds paths.
 use mathlib.Core.Path.{_≡_, sym, ap, _∙_}
 use mathlib.Core.List.{List, [], _∷_, _++_, append-assoc}
 use Prim.Native.Nat.{ℕ, _+_, _-_, _*_, _≤_, _<_}

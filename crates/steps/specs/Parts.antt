@@ -1,4 +1,4 @@
--- What the private functions promise each other. Assumes nothing.
+-- What the private functions promise each other.
 use mathlib.Core.Bool.{false, not, _&&_}
 use mathlib.Core.List.{List, [], _∷_, _++_, map}
 use mathlib.Core.Path.{_≡_}

@@ -1,4 +1,4 @@
--- What a relation of two arguments answers once both were judged through and something was found of them. Assumes nothing.
+-- What a relation of two arguments answers once both were judged through and something was found of them.
 use Prim.Native.Nat.{ℕ}
 use mathlib.Core.Path.{_≡_}
 use mathlib.Core.Bool.{Bool, cond}

@@ -1,5 +1,4 @@
 -- Verdict's quantifiers over the places of a row, given by our definitions: `exists` (`any-at`) and `forall` (`all-each`).
--- Assumes nothing.
 use Prim.Native.Nat.{ℕ, zero, suc, _<_}
 use mathlib.Core.Path.{_≡_, refl}
 use mathlib.Core.Bool.{Bool, true, false, _||_, false≢true, or-true}

@@ -1,4 +1,4 @@
--- When an RDN or a name lies under another, each by the flag that says whether values are compared in normal form. Assumes nothing.
+-- When an RDN or a name lies under another, each by the flag that says whether values are compared in normal form.
 use mathlib.Core.Bool.{Bool, _&&_}
 use mathlib.Core.List.{List}
 use lib.ListN.{length}

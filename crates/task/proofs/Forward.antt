@@ -1,4 +1,4 @@
--- The purpose is read from left to right. Assumes nothing.
+-- The purpose is read from left to right.
 use lib.Dec.{eqb}
 use Rattle.fields.proofs.Forward.{Forward, value, judged, then}
 use Rattle.fields.proofs.ForwardFields.{byte-forward}

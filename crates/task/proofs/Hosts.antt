@@ -1,4 +1,4 @@
--- What a task that was read says of its host: it stands in the file, and the task ends with it. Assumes nothing.
+-- What a task that was read says of its host: it stands in the file, and the task ends with it.
 use Prim.Native.Nat.{ℕ, _≤_}
 use mathlib.Core.Path.{_≡_}
 use mathlib.Core.List.{List}

@@ -1,5 +1,4 @@
 -- No two readings of a task say the same: what `task_after` promises pins its answer down, a task that was read and a fault alike.
--- Assumes nothing.
 use mathlib.Core.Path.{_≡_, ap}
 use Rattle.fields.specs.Answers.{held, Emptied}
 use Rattle.fields.specs.declared.Past.{Past}

@@ -1,4 +1,4 @@
--- The task by its values is what stands where its reader found it, whatever is made of it (`task-valued`). Assumes nothing.
+-- The task by its values is what stands where its reader found it, whatever is made of it (`task-valued`).
 use Prim.Native.Nat.{ℕ}
 use mathlib.Core.Path.{_≡_, sym, _∙_}
 use mathlib.Core.List.{List}

@@ -1,4 +1,4 @@
--- What each case of an answer stands for: the values, or the number of the reply. Assumes nothing.
+-- What each case of an answer stands for: the values, or the number of the reply.
 use Prim.Native.Nat.{ℕ}
 use Rattle.fields.specs.Fields.{Parsed, got, stop}
 use Rattle.fields.specs.Answers.{number}

@@ -1,4 +1,4 @@
--- Where the task stands, for readers that copy nothing: numbers, and the host's place in the file. Assumes nothing.
+-- Where the task stands, for readers that copy nothing: numbers, and the host's place in the file.
 use Prim.Native.Nat.{ℕ}
 use mathlib.Core.List.{List}
 use Rattle.fields.specs.Fields.{Parsed, got, after, countP, bigP}

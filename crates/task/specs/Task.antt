@@ -1,4 +1,4 @@
--- The purpose and the host's limit in the task of a card file (docs/CARD-FILE.md, "Layout"). Assumes nothing.
+-- The purpose and the host's limit in the task of a card file (docs/CARD-FILE.md, "Layout").
 use Prim.Native.Nat.{ℕ}
 use mathlib.Core.Bool.{cond}
 use mathlib.Core.List.{List}

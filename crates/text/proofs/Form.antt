@@ -1,5 +1,4 @@
 -- The loop of `normalize_string` on plain lists: what holds at its head, a law for each arm, and what each return answers.
--- Assumes nothing.
 use Prim.Native.Nat.{ℕ, _+_, _<_, _≤_}
 use mathlib.Core.Path.{_≡_, refl, sym, ap, _∙_}
 use mathlib.Core.Bool.{Bool, true, false, cond, _&&_}

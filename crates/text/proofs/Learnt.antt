@@ -1,5 +1,4 @@
 -- What a caller of `normalize_string` learns from its answer: the form that was written, or that room was short.
--- Assumes nothing.
 use Prim.Native.Nat.{ℕ, _≤_}
 use mathlib.Core.Path.{_≡_, sym, ap, _∙_}
 use mathlib.Core.Bool.{Bool, true, false, cond}

@@ -1,4 +1,4 @@
--- What `lowered` comes to below A, above Z and between them. Assumes nothing.
+-- What `lowered` comes to below A, above Z and between them.
 use Prim.Native.Nat.{ℕ, _+_, _<_, _≤_}
 use mathlib.Core.Path.{_≡_}
 use native.Mathlib.Omega.{arith}

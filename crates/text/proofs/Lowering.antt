@@ -1,5 +1,5 @@
 -- A string whose bytes are lowered where that is asked: its cuts (`low-take`, `low-drop`), what lowering does not move (`low-sign`, and so
--- the star of `low-star` and the dot of `low-dot`), and a string that is compared as it stands (`low-none`). Assumes nothing.
+-- the star of `low-star` and the dot of `low-dot`), and a string that is compared as it stands (`low-none`).
 use Prim.Native.Nat.{ℕ, zero, suc, _+_, _<_, _≤_}
 use mathlib.Core.Path.{_≡_, refl, sym, _∙_}
 use mathlib.Core.Bool.{Bool, true, false, cond, _&&_}

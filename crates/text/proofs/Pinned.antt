@@ -1,4 +1,4 @@
--- No two answers of `normalize_string` have the same number and bytes, so the clause on `formOf` pins the answer. Assumes nothing.
+-- No two answers of `normalize_string` have the same number and bytes, so the clause on `formOf` pins the answer.
 use Prim.Native.Nat.{ℕ, zero, suc}
 use mathlib.Core.Path.{_≡_, refl, sym, ap, _∙_}
 use Rattle.text.specs.Normalize.{Formed, formOf}

@@ -1,4 +1,4 @@
--- What `matchName` comes to under each test of `match_lowering`, of strings that are lowered where that is asked. Assumes nothing.
+-- What `matchName` comes to under each test of `match_lowering`, of strings that are lowered where that is asked.
 use Prim.Native.Nat.{ℕ, suc, _-_, _<_, _≤_}
 use mathlib.Core.Path.{_≡_, sym, ap, _∙_}
 use mathlib.Core.Bool.{Bool, true, false, not, _&&_}

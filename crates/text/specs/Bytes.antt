@@ -1,4 +1,4 @@
--- A byte lowered, and byte strings compared. Assumes nothing.
+-- A byte lowered, and byte strings compared.
 use Prim.Native.Nat.{ℕ, _+_}
 use mathlib.Core.Bool.{Bool, true, false, cond, _&&_}
 use mathlib.Core.List.{List, [], _∷_}

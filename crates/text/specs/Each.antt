@@ -1,4 +1,4 @@
--- A test asked of each element of a list. Assumes nothing.
+-- A test asked of each element of a list.
 use mathlib.Core.Bool.{Bool, true, false, _&&_, _||_}
 use mathlib.Core.List.{List, [], _∷_}
 

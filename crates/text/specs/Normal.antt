@@ -1,5 +1,4 @@
 -- The normal form of a string, in which names are compared (RFC 5280, 7.1): its words, lowered and joined by one space.
--- Assumes nothing.
 use Prim.Native.Nat.{ℕ}
 use mathlib.Core.Bool.{cond}
 use mathlib.Core.List.{List, [], _∷_, map, flatMap}

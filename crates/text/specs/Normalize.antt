@@ -1,4 +1,4 @@
--- What `normalize_string` answers and what it leaves in the lent room. Assumes nothing.
+-- What `normalize_string` answers and what it leaves in the lent room.
 use Prim.Native.Nat.{ℕ}
 use mathlib.Core.Bool.{cond}
 use mathlib.Core.List.{List, _++_}

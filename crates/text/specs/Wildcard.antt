@@ -1,4 +1,4 @@
--- When a host name fits a pattern (upstream's `match_name`, by the law `star-upstream`). Assumes nothing.
+-- When a host name fits a pattern (upstream's `match_name`, by the law `star-upstream`).
 use Prim.Native.Nat.{ℕ}
 use mathlib.Core.Bool.{Bool, cond, _&&_, _||_}
 use mathlib.Core.List.{List, [], _∷_}

@@ -1,4 +1,4 @@
--- A row's verdict in a column: one law for each answer of `signed_at`, `root_signed` and `bundle_signed`. Assumes nothing.
+-- A row's verdict in a column: one law for each answer of `signed_at`, `root_signed` and `bundle_signed`.
 use Prim.Native.Nat.{ℕ, _+_, _*_, _<_, _≤_}
 use mathlib.Core.Path.{_≡_}
 use mathlib.Core.Bool.{false, and-false}

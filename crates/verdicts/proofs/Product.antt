@@ -1,5 +1,5 @@
 -- The verdicts and their count, which must be the product of issuers and subjects: how large it can be, where the verdicts begin, and
--- one law for each answer of `verdicts_after` where the bundle ends. Assumes nothing.
+-- one law for each answer of `verdicts_after` where the bundle ends.
 use Prim.Native.Nat.{ℕ, _+_, _*_, _<_, _≤_}
 use mathlib.Core.Path.{_≡_, sym, _∙_}
 use mathlib.Core.List.{List}

@@ -1,4 +1,4 @@
--- The verdicts by their values are what stands where their reader found them, with the same faults (`grid-valued`). Assumes nothing.
+-- The verdicts by their values are what stands where their reader found them, with the same faults (`grid-valued`).
 use Prim.Native.Nat.{ℕ, _+_, _*_}
 use mathlib.Core.Path.{_≡_, refl, sym, _∙_}
 use mathlib.Core.Bool.{Bool, true, false, cond}

@@ -1,5 +1,5 @@
 -- Where the verdicts stand, for readers that copy nothing: a row for each issuer, roots first, and a column for each subject; and the
--- verdict on an issuer and a subject. Assumes nothing.
+-- verdict on an issuer and a subject.
 use Prim.Native.Nat.{ℕ, _+_, _*_}
 use mathlib.Core.Bool.{Bool, cond, _&&_}
 use mathlib.Core.List.{List}

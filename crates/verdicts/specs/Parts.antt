@@ -1,4 +1,4 @@
--- What `any_above_yes` looks for, which is the code's affair. Assumes nothing.
+-- What `any_above_yes` looks for, which is the code's affair.
 use Prim.Native.Nat.{ℕ}
 use mathlib.Core.Bool.{Bool, false, _||_}
 use mathlib.Core.List.{List, [], _∷_}

@@ -1,4 +1,4 @@
--- The verdicts of a card file: who signed whom, after their count (docs/CARD-FILE.md, "Layout"). Assumes nothing.
+-- The verdicts of a card file: who signed whom, after their count (docs/CARD-FILE.md, "Layout").
 use Prim.Native.Nat.{ℕ, _+_, _*_}
 use mathlib.Core.Bool.{cond}
 use mathlib.Core.List.{List}
