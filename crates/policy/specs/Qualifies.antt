@@ -1,4 +1,6 @@
--- By which roots a path qualifies at a time (docs/CARD-FILE.md, "Policy").
+-- By which roots a path qualifies at a time (docs/CARD-FILE.md, "Policy" and "The search"). A reader must believe this file (docs/MAP.md).
+-- Not here: the policy (Policy.antt); who issued whom (issuing/specs/Issued.antt); the same by what was judged once per certificate
+-- (Judging.antt), and that it is the same (`root-judged` of proofs/Qualified.antt).
 use Prim.Native.Nat.{ℕ}
 use mathlib.Core.Bool.{Bool, false, _&&_}
 use mathlib.Core.List.{List, [], _∷_}
