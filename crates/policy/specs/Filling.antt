@@ -1,4 +1,5 @@
--- What filling the seats promises (src/seating.rt), of the places or of the roots alike.
+-- What filling the seats promises (src/seating.rt), of the places or of the roots alike: who has a limit, each in the row of its limit, and
+-- the rows filled. What the seats are: Standing.antt (`Seated`).
 use Prim.Native.Nat.{ℕ, _≤_, _<_, min}
 use mathlib.Core.Bool.{false, _&&_}
 use mathlib.Core.List.{List}
