@@ -5,6 +5,7 @@ mod identity;
 mod plain;
 mod relations;
 mod searching;
+mod tasks;
 mod texts;
 
 pub use addresses::savuneco_ip_addr_in_range;
@@ -37,6 +38,8 @@ pub use searching::savuneco_slots;
 pub use subtree::is_subtree_of;
 pub use subtree::is_subtree_rdn;
 pub use subtree::rdn_has_name;
+pub use tasks::Asked;
+pub use tasks::savuneco_task;
 pub use text::Normalized;
 pub use text::match_name;
 pub use text::normalize_string;
