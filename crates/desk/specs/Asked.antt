@@ -5,8 +5,8 @@ use Rattle.fields.specs.Fields.{Parsed, got, stop}
 use Rattle.card.specs.Content.{Content}
 use Rattle.desk.specs.declared.tasks.Asked.{Asked}
 
--- what a file of n bytes that reads as x asks. The host is its last part, so it stands where so many bytes are left (`host-stands`).
--- With a fault there is its number, and nothing is asked
+-- what a file of n bytes that reads as x asks. The host is the file's last part, so it begins where as many bytes are left as it has
+-- (`host-stands`). With a fault there is its number, and nothing is asked
 unfoldable pub askedBy : ℕ → Parsed Content → Asked
 askedBy n (got c e) =
     record {

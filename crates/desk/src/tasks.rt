@@ -1,4 +1,4 @@
-// What a card file asks for C.
+// The task for C: what a card file asks.
 use card::Ended;
 ghost use mathlib.Core.Path.{_≡_};
 ghost use lib.ListN.{length};
@@ -6,7 +6,7 @@ ghost use Rattle.card.specs.Answers.{numberOf};
 ghost use Rattle.card.specs.Content.{contentP};
 ghost use Rattle.desk.specs.Asked.{askedBy};
 
-// What a file asks: its numbers, the place and the length of its host, and how many roots and certificates it has. The number is 0;
+// Now and budget, where the host stands in the file and how long it is, and how many roots and certificates there are. The number is 0;
 // where the file can't be read it is the fault's, and all else is 0.
 #[repr(C)]
 pub struct Asked {
@@ -19,7 +19,7 @@ pub struct Asked {
     pub certificates: u8,
 }
 
-// What a file asks; nothing is searched. The card of a file that can't be read is nothing but zeros.
+// Reads the file, and searches nothing. The card of a file that can't be read is nothing but zeros.
 #[no_mangle]
 pub extern "C" fn savuneco_task(file: &[u8]) -> Asked
     ensures { λ r. ⌜ r ≡ askedBy (length (now (file .entry))) (contentP (now (file .entry))) ⌝ }
