@@ -1,12 +1,21 @@
 /* For machines other than x86-64. The module takes the place for an answer as its first argument, as x86-64 passes it; on Arm a C caller
-   passes that place in a register of its own. A program that is linked with --wrap for the two functions calls these, and
+   passes that place in a register of its own. A program that is linked with --wrap for the three functions calls these, and
    __real_.. is the module's function. */
 #include "savuneco.h"
 
+void __real_savuneco_task(savuneco_asked *asked, const uint8_t *file, size_t file_len);
 void __real_savuneco_search(savuneco_answer *answer, const uint8_t *file, size_t file_len, uint8_t *room, size_t room_len);
 void __real_savuneco_paused(savuneco_answer *answer, const uint8_t *file, size_t file_len, uint64_t k, uint8_t *room, size_t room_len);
+savuneco_asked __wrap_savuneco_task(const uint8_t *file, size_t file_len);
 savuneco_answer __wrap_savuneco_search(const uint8_t *file, size_t file_len, uint8_t *room, size_t room_len);
 savuneco_answer __wrap_savuneco_paused(const uint8_t *file, size_t file_len, uint64_t k, uint8_t *room, size_t room_len);
+
+savuneco_asked __wrap_savuneco_task(const uint8_t *file, size_t file_len)
+{
+    savuneco_asked asked;
+    __real_savuneco_task(&asked, file, file_len);
+    return asked;
+}
 
 savuneco_answer __wrap_savuneco_search(const uint8_t *file, size_t file_len, uint8_t *room, size_t room_len)
 {

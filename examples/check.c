@@ -1,5 +1,5 @@
-/* check CARD: asks the library about a card file, and prints the reply in words, the paths that wait after the first step where
-   there is a search, and whether one name written in two ways is the same name. */
+/* check CARD: asks the library about a card file, and prints what the file asks where it can be read, the reply in words, the paths
+   that wait after the first step where there is a search, and whether one name written in two ways is the same name. */
 #include <inttypes.h>
 #include <stdio.h>
 
@@ -21,6 +21,15 @@ static const char *const replies[] = {
     [SAVUNECO_LEFT_OVER] = "bytes left over",
     [SAVUNECO_NO_ROOM] = "no room",
 };
+
+/* An answer is believed only for what was asked: a caller holds these to what it wants to know. */
+static void print_task(savuneco_asked asked)
+{
+    printf("asked: now %" PRIu64 ", budget %" PRIu64 ", roots %d, certificates %d, host \"", asked.now, asked.budget, asked.roots,
+           asked.certificates);
+    fwrite(file + asked.host_at, 1, asked.host_length, stdout);
+    printf("\"\n");
+}
 
 static void print_path(const uint8_t *places, uint8_t length)
 {
@@ -77,6 +86,9 @@ int main(int count, char **words)
         return 2;
     }
     fclose(card);
+    savuneco_asked asked = savuneco_task(file, len);
+    if (asked.number == 0)
+        print_task(asked);
     print_answer(savuneco_search(file, len, room, sizeof room));
     if (savuneco_paused(file, len, 1, room, sizeof room).number <= SAVUNECO_EXHAUSTED)
         print_waiting(room);

@@ -1,11 +1,25 @@
-//! `check CARD`: asks the library about a card file, and prints the reply in words, the paths that wait after the first step where
-//! there is a search, and whether one name written in two ways is the same name. It prints what `check.c` prints.
+//! `check CARD`: asks the library about a card file, and prints what the file asks where it can be read, the reply in words, the paths
+//! that wait after the first step where there is a search, and whether one name written in two ways is the same name. It prints what
+//! `check.c` prints.
+
+use std::io::Write;
 
 /// The library as safe Rust: a slice is valid for its length, and a `&mut` one overlaps nothing, so every call keeps what the header asks.
 mod savuneco {
     pub const SLOT: usize = 17;
     pub const ROOM: usize = 106 * SLOT;
     pub const EXHAUSTED: u8 = 2;
+
+    #[repr(C)]
+    pub struct Asked {
+        pub now: u64,
+        pub budget: u64,
+        pub host_at: u64,
+        pub host_length: u64,
+        pub number: u8,
+        pub roots: u8,
+        pub certificates: u8,
+    }
 
     #[repr(C)]
     pub struct Answer {
@@ -18,9 +32,14 @@ mod savuneco {
 
     #[link(name = "desk", kind = "static")]
     extern "C" {
+        fn savuneco_task(file: *const u8, file_len: usize) -> Asked;
         fn savuneco_search(file: *const u8, file_len: usize, room: *mut u8, room_len: usize) -> Answer;
         fn savuneco_paused(file: *const u8, file_len: usize, k: u64, room: *mut u8, room_len: usize) -> Answer;
         fn savuneco_same_dn(a: *const u8, a_len: usize, b: *const u8, b_len: usize, normalise: u8) -> u8;
+    }
+
+    pub fn task(file: &[u8]) -> Asked {
+        unsafe { savuneco_task(file.as_ptr(), file.len()) }
     }
 
     pub fn search(file: &[u8], room: &mut [u8]) -> Answer {
@@ -54,6 +73,14 @@ const REPLIES: [&str; 11] = [
     "bytes left over",
     "no room",
 ];
+
+/// The line that says what a file asks. The host is bytes, of any encoding.
+fn task_line(file: &[u8], asked: &savuneco::Asked) -> Vec<u8> {
+    let counts = format!("roots {}, certificates {}", asked.roots, asked.certificates);
+    let head = format!("asked: now {}, budget {}, {counts}, host \"", asked.now, asked.budget);
+    let host = &file[asked.host_at as usize..][..asked.host_length as usize];
+    [head.as_bytes(), host, b"\"\n"].concat()
+}
 
 fn path(places: &[u8]) -> String {
     places.iter().map(|place| format!(" {place}")).collect()
@@ -97,6 +124,10 @@ fn main() {
         eprintln!("check: give a card file that can be read");
         std::process::exit(2);
     };
+    let asked = savuneco::task(&file);
+    if asked.number == 0 {
+        std::io::stdout().write_all(&task_line(&file, &asked)).expect("standard output takes a line");
+    }
     let mut room = [0; savuneco::ROOM];
     println!("{}", in_words(&savuneco::search(&file, &mut room)));
     if savuneco::paused(&file, 1, &mut room).number <= savuneco::EXHAUSTED {

@@ -12,6 +12,14 @@ _Static_assert(offsetof(savuneco_answer, number) == 8, "number");
 _Static_assert(offsetof(savuneco_answer, root) == 9, "root");
 _Static_assert(offsetof(savuneco_answer, length) == 10, "length");
 _Static_assert(offsetof(savuneco_answer, path) == 11, "path");
+_Static_assert(sizeof(savuneco_asked) == 40, "what is asked takes 40 bytes");
+_Static_assert(offsetof(savuneco_asked, now) == 0, "now");
+_Static_assert(offsetof(savuneco_asked, budget) == 8, "budget");
+_Static_assert(offsetof(savuneco_asked, host_at) == 16, "host_at");
+_Static_assert(offsetof(savuneco_asked, host_length) == 24, "host_length");
+_Static_assert(offsetof(savuneco_asked, number) == 32, "number");
+_Static_assert(offsetof(savuneco_asked, roots) == 33, "roots");
+_Static_assert(offsetof(savuneco_asked, certificates) == 34, "certificates");
 _Static_assert(sizeof(savuneco_normal) == 16, "the normaliser's answer takes 16 bytes");
 _Static_assert(offsetof(savuneco_normal, length) == 0, "length");
 _Static_assert(offsetof(savuneco_normal, number) == 8, "number");
@@ -127,6 +135,50 @@ static void the_search(void)
     replies("no certificate", ask(24, sizeof room), SAVUNECO_EMPTY_CHAIN, 0);
 }
 
+static void asks(const char *what, savuneco_asked task, savuneco_asked must)
+{
+    is(what, task.now, must.now);
+    is(what, task.budget, must.budget);
+    is(what, task.host_at, must.host_at);
+    is(what, task.host_length, must.host_length);
+    is(what, task.number, must.number);
+    is(what, task.roots, must.roots);
+    is(what, task.certificates, must.certificates);
+}
+
+/* the first len bytes can't be read: nothing is asked, and the search replies the same number */
+static void unread(const char *what, size_t len, uint8_t number)
+{
+    asks(what, savuneco_task(card, len), (savuneco_asked){ .number = number });
+    is(what, ask(len, sizeof room).number, number);
+}
+
+static void the_task(void)
+{
+    make_card();
+    asks("no host", savuneco_task(card, card_len), (savuneco_asked){ 0, 256, card_len, 0, 0, 2, 3 });
+    memcpy(card + budget_at - 8, "\1\2\3\4\5\6\7\10", 8);
+    card[card_len - 1] = 5;
+    put("a.com", 5);
+    savuneco_asked task = savuneco_task(card, card_len);
+    asks("a host", task, (savuneco_asked){ 0x0102030405060708, 256, card_len - 5, 5, 0, 2, 3 });
+    bytes_are("the host's bytes", card + task.host_at, "a.com", 5);
+    unread("task: a byte is missing", card_len - 1, SAVUNECO_CUT_SHORT);
+    unread("task: a byte too many", card_len + 1, SAVUNECO_LEFT_OVER);
+    unread("task: 65,536 bytes", 65536, SAVUNECO_TOO_LONG);
+    card[verdicts_at] = 2;
+    unread("task: verdict 2", card_len, SAVUNECO_BAD_VALUE);
+    card[1] = 33;
+    unread("task: 33 roots", card_len, SAVUNECO_BAD_COUNT);
+    card[0] = 2;
+    unread("task: edition 2", card_len, SAVUNECO_UNKNOWN_EDITION);
+    memset(card, 0, 24);
+    card[0] = card[5] = 1;
+    card[13] = 6;
+    card[21] = 7;
+    asks("task: no certificate", savuneco_task(card, 24), (savuneco_asked){ 6, 7, 24, 0, 0, 0, 0 });
+}
+
 static void the_paused_run(void)
 {
     make_card();
@@ -217,6 +269,7 @@ static void null_with_length_0(void)
     memset(room, 7, sizeof room);
     replies("no file", savuneco_search(NULL, 0, room, sizeof room), SAVUNECO_CUT_SHORT, 0);
     replies("no file, paused", savuneco_paused(NULL, 0, 1, room, sizeof room), SAVUNECO_CUT_SHORT, 0);
+    asks("no file, no task", savuneco_task(NULL, 0), (savuneco_asked){ .number = SAVUNECO_CUT_SHORT });
     make_card();
     replies("no room", savuneco_search(card, card_len, NULL, 0), SAVUNECO_NO_ROOM, 0);
     replies("no room, paused", savuneco_paused(card, card_len, 1, NULL, 0), SAVUNECO_NO_ROOM, 0);
@@ -238,6 +291,7 @@ static void null_with_length_0(void)
 int main(void)
 {
     the_search();
+    the_task();
     the_paused_run();
     texts();
     relations();

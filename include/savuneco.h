@@ -13,7 +13,8 @@
    Flags (normalise, has_..) are 0 for no and anything else for yes.
 
    The library keeps nothing between calls, so threads may call it at the same time. It asks for no memory but the stack's (the search
-   took less than 40,000 bytes of it where it was measured, on x86-64), and calls nothing but memcpy and memset. */
+   took less than 40,000 bytes of it where it was measured, on x86-64), and calls nothing but memcpy and memset. The stack must be
+   aligned at a call as the platform's calling convention says: on x86-64 to 16 bytes. */
 #ifndef SAVUNECO_H
 #define SAVUNECO_H
 
@@ -23,6 +24,18 @@
 #ifdef __cplusplus
 extern "C" {
 #endif
+
+/* The version of what this header declares. Where it changes,
+   - a new PATCH changes no declaration and no answer;
+   - a new MINOR adds functions: all that is declared stays as it is and answers as before;
+   - a new MAJOR changes a declaration or an answer (as savuneco_answer will change when paths have more places): compile against the
+     new header.
+   A caller holds the major number at build time, by #if or _Static_assert on SAVUNECO_VERSION_MAJOR. The shared object's soname
+   carries the same number. */
+#define SAVUNECO_VERSION "1.0.0"
+#define SAVUNECO_VERSION_MAJOR 1
+#define SAVUNECO_VERSION_MINOR 0
+#define SAVUNECO_VERSION_PATCH 0
 
 /* The replies to a card file. */
 enum {
@@ -45,6 +58,23 @@ enum {
     SAVUNECO_ROOM = 1802  /* the bytes that suffice for every file: 106 slots */
 };
 
+/* What a card file asks. */
+typedef struct {
+    uint64_t now;         /* the time at which dates are judged, in seconds of the same count as theirs */
+    uint64_t budget;      /* the most steps that savuneco_search takes */
+    uint64_t host_at;     /* where the host's bytes begin in the file */
+    uint64_t host_length; /* how many bytes the host has, 0 to 253; 0 where no host is asked */
+    uint8_t number;       /* 0 where the file can be read, else 4 to 9 */
+    uint8_t roots;        /* how many roots there are, 0 to 32 */
+    uint8_t certificates; /* how many certificates the bundle has, 0 to 16 */
+} savuneco_asked;
+
+/* What the file asks, so that a caller sees it before it believes an answer; nothing is searched. The host is the last part of a
+   file: it stands at file[host_at] to file[host_at + host_length - 1], which is the file's last byte. With host_length 0 no host is
+   asked, and an accepted path then says nothing of a host. A file that can't be read gets the number that savuneco_search replies to
+   it, and all else is 0. An empty bundle has its task, with number 0 and no certificates; savuneco_search replies 3 to it. */
+savuneco_asked savuneco_task(const uint8_t *file, size_t file_len);
+
 /* The answer to a card file. */
 typedef struct {
     uint64_t steps;                /* how many paths were taken; 0 in replies from 3 up */
@@ -56,7 +86,8 @@ typedef struct {
 
 /* Searches the file's certificates with the file's own budget: it takes at most so many steps, and nothing else bounds its time.
    The first path in the order of paths that reaches a root under the policy is accepted, with its lowest such root. A file that
-   can't be read gets 4 to 9, and an empty bundle 3.
+   can't be read gets 4 to 9, and an empty bundle 3. A file with an empty host asks for none, and no name is then compared with one:
+   savuneco_task tells what a file asks. To take fewer steps than the file's own budget allows, call savuneco_paused.
 
    The room is used as slots of 17 bytes; savuneco_slots says how many are needed, and with fewer whole slots the reply is 10.
    After replies 0, 1 and 2 the needed slots are all zero and every other byte of the room is as it was; after every other reply

@@ -8,7 +8,7 @@ use std::time::{Duration, Instant};
 /// A turn calls a version so often that it takes about this long, in nanoseconds.
 const TURN: u64 = 40_000;
 
-/// Of many turns one in so many is passed over as too fast to be true, since the clock slips at times; the next is the best.
+/// The fastest turn in so many is discarded, since the clock slips at times; the fastest of the others is the time that is told.
 const PASSED_OVER: usize = 100;
 
 /// The fewest turns that are tried.

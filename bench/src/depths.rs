@@ -1,9 +1,29 @@
 //! Rust by depths: the library's own walk, with all that it keeps: rows of 64 bits, and for each depth the places that the path before
 //! leaves free and how that path stands. A step goes through no path. The lent room is left as it is.
+//!
+//! CHECKED says whether Rust looks at each index: with it the walk is ordinary safe Rust, without it what the library is, whose indexes
+//! are proved to be within their arrays.
 
 use crate::answer::Answer;
 use crate::question::Question;
 use crate::seats::Seats;
+
+fn at<const CHECKED: bool, T: Copy>(list: &[T; 16], index: usize) -> T {
+    if CHECKED {
+        return list[index];
+    }
+    // SAFETY: the walk is the library's, of which it is proved that every index is below 16
+    unsafe { *list.get_unchecked(index) }
+}
+
+fn put<const CHECKED: bool, T>(list: &mut [T; 16], index: usize, value: T) {
+    if CHECKED {
+        list[index] = value;
+        return;
+    }
+    // SAFETY: as in `at`
+    unsafe { *list.get_unchecked_mut(index) = value }
+}
 
 /// How a path stands that is to go on.
 #[derive(Clone, Copy)]
@@ -34,11 +54,11 @@ impl Standing {
         }
     }
 
-    fn added(self, seats: &Seats, place: usize) -> Standing {
+    fn added<const CHECKED: bool>(self, seats: &Seats, place: usize) -> Standing {
         let below = self.below + 1;
         Standing {
-            places: seats.places[below],
-            roots: self.over(place) & seats.roots[below],
+            places: at::<CHECKED, _>(&seats.places, below),
+            roots: self.over(place) & at::<CHECKED, _>(&seats.roots, below),
             below,
         }
     }
@@ -52,7 +72,7 @@ struct Level {
     standing: Standing,
 }
 
-pub fn walk(question: &Question) -> Answer {
+pub fn walk<const CHECKED: bool>(question: &Question) -> Answer {
     let seats = Seats::of(question);
     let issuers = question.issuers.map(u64::from);
     let roots = question.roots.map(u64::from);
@@ -72,8 +92,8 @@ pub fn walk(question: &Question) -> Answer {
                 return Answer::without_path(1, steps);
             }
             depth -= 1;
-            row = ahead[depth];
-            here = levels[depth];
+            row = at::<CHECKED, _>(&ahead, depth);
+            here = at::<CHECKED, _>(&levels, depth);
             continue;
         }
         if steps == question.budget {
@@ -81,16 +101,16 @@ pub fn walk(question: &Question) -> Answer {
         }
         steps += 1;
         let place = row.ilog2() as usize;
-        path[depth] = place as u8;
+        put::<CHECKED, _>(&mut path, depth, place as u8);
         row ^= 1 << place;
         let free = here.free & !(1 << place);
-        let next = free & issuers[place];
-        let tops = here.standing.over(place) & roots[place];
+        let next = free & at::<CHECKED, _>(&issuers, place);
+        let tops = here.standing.over(place) & at::<CHECKED, _>(&roots, place);
         let length = depth + 1;
         if next != 0 {
-            ahead[depth] = row;
-            levels[depth] = here;
-            let standing = here.standing.added(&seats, place);
+            put::<CHECKED, _>(&mut ahead, depth, row);
+            put::<CHECKED, _>(&mut levels, depth, here);
+            let standing = here.standing.added::<CHECKED>(&seats, place);
             here = Level { free, standing };
             row = next;
             depth = length;

@@ -2,18 +2,22 @@
 
 use crate::clock::{agreed, times, Job};
 use crate::inputs::{self, Alike, Ordinary, HOST};
-use crate::versions::{Version, BEFORE, DEPTHS, LEAN, LIBRARY, ORDINARY, PACKED, TUNED, UPSTREAM};
+use crate::versions::{
+    Version, BEFORE, DEPTHS, LEAN, LIBRARY, ORDINARY, PACKED, TUNED, UNCHECKED, UPSTREAM,
+};
 use std::time::Duration;
 
-const ALL: [&Version; 8] = [
-    &LIBRARY, &BEFORE, &ORDINARY, &UPSTREAM, &TUNED, &PACKED, &DEPTHS, &LEAN,
+const ALL: [&Version; 9] = [
+    &LIBRARY, &BEFORE, &ORDINARY, &UPSTREAM, &TUNED, &PACKED, &DEPTHS, &UNCHECKED, &LEAN,
 ];
 
 /// Those whose parts are timed too.
 const CLOSE: [&Version; 3] = [&LIBRARY, &BEFORE, &TUNED];
 
 /// Those whose steps are timed: the ones that allocate nothing.
-const WALKS: [&Version; 6] = [&LIBRARY, &BEFORE, &TUNED, &PACKED, &DEPTHS, &LEAN];
+const WALKS: [&Version; 7] = [
+    &LIBRARY, &BEFORE, &TUNED, &PACKED, &DEPTHS, &UNCHECKED, &LEAN,
+];
 
 /// Whole answers, from the bytes of the file: the library's time, and its ratio to each other version.
 pub fn beside(lasting: Duration) {

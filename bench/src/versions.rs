@@ -48,7 +48,12 @@ pub const PACKED: Version = Version {
 
 pub const DEPTHS: Version = Version {
     name: "depths",
-    search: |file, room| search(file, room, |question, _| depths::walk(question)),
+    search: |file, room| search(file, room, |question, _| depths::walk::<true>(question)),
+};
+
+pub const UNCHECKED: Version = Version {
+    name: "unchecked",
+    search: |file, room| search(file, room, |question, _| depths::walk::<false>(question)),
 };
 
 pub const LEAN: Version = Version {

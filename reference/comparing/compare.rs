@@ -17,7 +17,7 @@ mod watch;
 mod wording;
 
 use files::{bounded, make, questions, Call, Made, Question};
-use library::{by_library, by_reference, room_byte, Said};
+use library::{by_library, by_reference, room_byte, task_by_library, task_by_reference, Said};
 use random::Random;
 use std::fs;
 use std::io::{self, Write};
@@ -153,11 +153,11 @@ impl Run {
         self.watch.begin(late);
     }
 
-    /// Puts each question to both; says whether all their answers are the same.
+    /// Asks both what the file asks, and puts each question to both; says whether all their answers are the same.
     fn compare(&mut self, title: &str, file: &Made, questions: &[Question]) -> bool {
         self.tally.file(file.bytes.len());
         self.begin(title);
-        let mut same = true;
+        let mut same = self.compare_task(title, &file.bytes);
         for question in questions {
             let before = file.bytes.clone();
             let library = by_library(&file.bytes, question);
@@ -168,6 +168,19 @@ impl Run {
                 self.show(title, &before, &called(question));
                 show_both(&library, &reference);
             }
+        }
+        same
+    }
+
+    fn compare_task(&mut self, title: &str, bytes: &[u8]) -> bool {
+        let library = task_by_library(bytes);
+        let reference = task_by_reference(bytes);
+        self.tally.task(reference.number);
+        let same = library == reference;
+        if !same {
+            self.show(title, bytes, "task");
+            println!("  library    {library:?}");
+            println!("  reference  {reference:?}");
         }
         same
     }

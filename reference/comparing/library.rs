@@ -1,7 +1,7 @@
 //! The library behind its C face, and what the reference's answers are in that form.
 
 use crate::files::{Call, Question};
-use reference::{paused, search, Reply};
+use reference::{paused, reader, search, Reply};
 
 /// `savuneco_answer`.
 #[repr(C)]
@@ -24,8 +24,22 @@ impl Answer {
     };
 }
 
+/// `savuneco_asked`.
+#[repr(C)]
+#[derive(Debug, Default, PartialEq, Eq)]
+pub struct Asked {
+    now: u64,
+    budget: u64,
+    host_at: u64,
+    host_length: u64,
+    pub number: u8,
+    roots: u8,
+    certificates: u8,
+}
+
 // The place for the answer comes first: so the kit's module takes it on every machine (examples/by_value.c).
 extern "C" {
+    fn savuneco_task(asked: *mut Asked, file: *const u8, file_len: usize);
     fn savuneco_search(
         answer: *mut Answer,
         file: *const u8,
@@ -61,14 +75,48 @@ pub fn room_byte(place: usize) -> isize {
     place as isize - FENCE as isize
 }
 
+/// The face takes a null pointer for nothing.
+fn pointer(bytes: &[u8]) -> *const u8 {
+    match bytes {
+        [] => std::ptr::null(),
+        _ => bytes.as_ptr(),
+    }
+}
+
+pub fn task_by_library(file: &[u8]) -> Asked {
+    let mut asked = Asked::default();
+    // SAFETY: the file's pointer is valid for its length, and the answer's place overlaps nothing else that is in use.
+    unsafe { savuneco_task(&mut asked, pointer(file), file.len()) };
+    asked
+}
+
+/// The host's place is told by its bytes, which are borrowed from the file.
+pub fn task_by_reference(file: &[u8]) -> Asked {
+    let card = match reader::read(file) {
+        Ok(card) => card,
+        Err(fault) => {
+            return Asked {
+                number: fault as u8,
+                ..Asked::default()
+            }
+        }
+    };
+    let host = card.task.host;
+    Asked {
+        now: card.task.now,
+        budget: card.task.budget,
+        host_at: (host.as_ptr() as usize - file.as_ptr() as usize) as u64,
+        host_length: host.len() as u64,
+        number: 0,
+        roots: card.roots.len() as u8,
+        certificates: card.bundle.len() as u8,
+    }
+}
+
 pub fn by_library(file: &[u8], question: &Question) -> Said {
     let mut room = fenced(&question.room);
     let lent = &mut room[FENCE..FENCE + question.room.len()];
-    // the face takes a null pointer for nothing
-    let (mut file_at, mut lent_at) = (file.as_ptr(), lent.as_mut_ptr());
-    if file.is_empty() {
-        file_at = std::ptr::null();
-    }
+    let (file_at, mut lent_at) = (pointer(file), lent.as_mut_ptr());
     if lent.is_empty() {
         lent_at = std::ptr::null_mut();
     }

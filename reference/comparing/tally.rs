@@ -35,6 +35,7 @@ impl fmt::Display for Row {
 
 pub struct Tally {
     bytes: Row,
+    tasks: Row,
     searches: Row,
     bundles: Row,
     budgets: Row,
@@ -52,6 +53,13 @@ fn reply(number: u64) -> String {
         1 => "REFUSE".into(),
         2 => "EXHAUSTED".into(),
         _ => format!("ERROR-{number}"),
+    }
+}
+
+fn reading(number: u64) -> String {
+    match number {
+        0 => "read".into(),
+        _ => reply(number),
     }
 }
 
@@ -98,6 +106,7 @@ impl Tally {
     pub fn new() -> Tally {
         Tally {
             bytes: Row::new("bytes of a file", tens),
+            tasks: Row::new("tasks", reading),
             searches: Row::new("searches", reply),
             bundles: Row::new("  certificates", of),
             budgets: Row::new("  budget", |key| BUDGETS[key as usize].into()),
@@ -112,6 +121,10 @@ impl Tally {
 
     pub fn file(&mut self, bytes: usize) {
         self.bytes.count(digits(bytes as u64));
+    }
+
+    pub fn task(&mut self, number: u8) {
+        self.tasks.count(number.into());
     }
 
     pub fn line(&mut self, number: u8) {
@@ -173,6 +186,7 @@ impl fmt::Display for Tally {
     fn fmt(&self, f: &mut fmt::Formatter) -> fmt::Result {
         let rows = [
             &self.bytes,
+            &self.tasks,
             &self.searches,
             &self.bundles,
             &self.budgets,

@@ -1,4 +1,5 @@
--- Sections read one after another, each with its value beside the place past it, make one card. Assumes nothing.
+-- Sections read one after another, each with its value beside the place past it, make one card: `chained`, for the proof of `read`. The
+-- sections in their order: specs/Card.antt; a value beside a place: fields/proofs/Held.antt.
 use Prim.Native.Nat.{ℕ}
 use mathlib.Core.Path.{_≡_, refl, sym, ap, _∙_}
 use mathlib.Core.Bool.{Bool, true, false, cond}

@@ -1,4 +1,5 @@
--- The sections of a card file are read from left to right. Assumes nothing.
+-- The sections of a card file are read from left to right (`sections-forward`), for LeftToRight.antt. What that means, and the readers
+-- below: fields/proofs/Forward.antt, and the Forward.antt of record, verdicts and task.
 use mathlib.Core.List.{List}
 use lib.Dec.{eqb}
 use lib.ListN.{length}

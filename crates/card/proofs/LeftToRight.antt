@@ -1,8 +1,7 @@
--- A card file is judged from left to right (docs/CARD-FILE.md), by the five ways of a file (`way`). A fault that a byte shows is met with
--- that byte, whatever stands behind it (`first-fault`). A file that is cut short is so at its end alone: each beginning of it is cut short
--- (`cut-short`), and a longer file meets its fault only behind it (`fault-behind`). Each proper beginning of a file that is read is cut
--- short (`beginning-cut`), and bytes behind that file are left over (`read-whole`); bytes are left over nowhere else (`left-over`).
--- Assumes nothing.
+-- A card file is judged from left to right (docs/CARD-FILE.md, "Order of judging"), by the five ways of a file (`way`). A fault that a byte
+-- shows is met with that byte, whatever stands behind it (`first-fault`). A file that is cut short is so at its end alone: so is each
+-- beginning of it (`cut-short`), and a longer file meets its fault only behind it (`fault-behind`). Each proper beginning of a file that is
+-- read is cut short (`beginning-cut`), and bytes are left over behind such a file (`read-whole`) and nowhere else (`left-over`).
 use Prim.Native.Nat.{ℕ, _<_, _≤_}
 use mathlib.Core.Path.{_≡_, refl, sym, _∙_}
 use mathlib.Core.Logic.{_≢_}

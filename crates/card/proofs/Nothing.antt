@@ -1,4 +1,5 @@
--- A card of fresh sections is the fresh card. Assumes nothing.
+-- A card of fresh sections is the fresh card (`card-fresh`), for the proof of `Card::new`. What is fresh: specs/Card.antt; roots and
+-- bundle: certificates/proofs/Nothing.antt.
 use mathlib.Core.Path.{_≡_}
 use lib.ListN.{replicate}
 use Rattle.places.specs.Limits.{rootsMost, bundleMost}

@@ -1,4 +1,5 @@
--- No two readings tell the same: what `read` promises pins its answer down, a card that was read and a fault alike. Assumes nothing.
+-- No two readings tell the same (`read-pins`): what `read` promises pins its answer down, a card that was read and a fault alike.
+-- `ended-again`, an end by its number, is for question/proofs/Pinned.antt. What a reading tells: specs/Answers.antt.
 use Prim.Native.Nat.{ℕ}
 use mathlib.Core.Path.{_≡_, refl, ap}
 use mathlib.Core.Bool.{cond}

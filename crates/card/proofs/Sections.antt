@@ -1,4 +1,6 @@
--- What a card that was read says: what each of its sections says, and that the file ends with them (`card-read`). Assumes nothing.
+-- What a card that was read says: what each of its sections says, and that the file ends with them (`card-read`). Whatever is said of a
+-- card that was read, here and in the crates above, begins with this. Its certificates by their places: Standing.antt; who signed whom:
+-- Signed.antt; its content: Values.antt.
 use Prim.Native.Nat.{ℕ, _≤_}
 use mathlib.Core.Path.{_≡_, refl}
 use mathlib.Core.Bool.{Bool, true, false, cond}

@@ -1,5 +1,6 @@
 -- The certificate at a place is what the record there says, on any card (`root-at`, `bundled-at`). A card that was read has as many
--- certificates as it counts, and each of its records was read somewhere in the file (`root-stands`, `bundled-stands`). Assumes nothing.
+-- certificates as it counts, and each of its records was read somewhere in the file (`root-stands`, `bundled-stands`). For the proofs of
+-- issuing, policy and question; lists of records: certificates/proofs/Standing.antt.
 use Prim.Native.Nat.{ℕ, _<_, _≤_}
 use mathlib.Core.Path.{_≡_, refl, ap, _∙_}
 use mathlib.Core.Bool.{Bool, true, false, cond}

@@ -1,5 +1,5 @@
--- Any bytes at all get their content or one of 4 to 9: a file that can't be read stops at one of these (`file-stops`), so that what
--- is answered as read was read (`answered-read`). Assumes nothing.
+-- Any bytes at all get their content or one of 4 to 9: a file that can't be read stops at one of these (`file-stops`), so that what is
+-- answered as read was read (`answered-read`, for question/proofs/Posing.antt). Which bytes a fault hangs on: LeftToRight.antt.
 use Prim.Native.Nat.{ℕ, zero, suc, _+_, _*_, _≤_}
 use mathlib.Core.Path.{_≡_, refl, sym, ap, _∙_}
 use mathlib.Core.Bool.{Bool, true, false, cond, _&&_}

@@ -1,5 +1,5 @@
 -- Two places stay two on a card that was read: no two places of its roots, and no two of its bundle, hold the same record (`two-roots`,
--- `two-bundled`). Assumes nothing.
+-- `two-bundled`). Of any list of records: certificates/proofs/Two.antt; two alike certificates in a search: question/proofs/Alike.antt.
 use Prim.Native.Nat.{ℕ, _<_}
 use mathlib.Core.Path.{_≡_}
 use mathlib.Core.List.{List}

@@ -1,5 +1,6 @@
--- What a card that was found says is what a file's reader by value reads, with the same faults in the same order (`content-by-card`).
--- Assumes nothing.
+-- What a card that was found says is what a file's reader by value reads, with the same faults in the same order (`content-by-card`;
+-- `content-got` and `content-stops` for question and report). The readers: `fileP` of specs/Card.antt and `contentP` of specs/Content.antt;
+-- the same of each section: the Values.antt of record, verdicts and task.
 use Prim.Native.Nat.{ℕ, _≤_}
 use mathlib.Core.Path.{_≡_, refl, sym, ap, _∙_}
 use mathlib.Core.Bool.{Bool, true, false, cond}

@@ -1,4 +1,5 @@
--- What a reading stands for: the number of the reply and the card. Assumes nothing.
+-- What a reading stands for: the number of the reply and the card; then what a reading must tell, which is the contract of `read`. Where a
+-- card's sections stand: Card.antt; the faults' numbers: fields/specs/Answers.antt; that no two readings tell the same: proofs/Pinned.antt.
 use Prim.Native.Nat.{ℕ}
 use Rattle.fields.specs.Fields.{Parsed, got, stop}
 use Rattle.fields.specs.Answers.{number}

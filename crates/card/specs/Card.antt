@@ -1,5 +1,7 @@
--- Where a card file's sections stand, for readers that copy nothing: in their order, judged from left to right. What is found are
--- numbers and places in the file. Assumes nothing.
+-- Where a card file's sections stand, for readers that copy nothing: in their order, judged from left to right. What is found are numbers
+-- and places in the file.
+-- Not here: what the file says (Content.antt); what the places say over a file (Parts.antt); that the two come to the same, with the same
+-- faults (`content-by-card` of proofs/Values.antt); each section by itself (the specs of certificates, verdicts and task).
 use Prim.Native.Nat.{ℕ}
 use mathlib.Core.Bool.{cond}
 use mathlib.Core.List.{List}

@@ -1,5 +1,7 @@
--- What a card file says: certificates, who signed whom, and the task; its sections in their order, judged from left to right
--- (docs/CARD-FILE.md, "Layout"). Assumes nothing.
+-- What a card file says (docs/CARD-FILE.md, "Layout"): its sections in their order, judged from left to right, and the file to its end;
+-- then the certificate at a place, and who signed whom. A reader must believe this file (docs/MAP.md).
+-- Not here: a certificate (record/specs/Certificate.antt), the verdicts' count and bytes (verdicts/specs/Verdicts.antt), the purpose
+-- (task/specs/Task.antt); where the sections stand in a file (Card.antt), and that both read the same (proofs/Values.antt).
 use Prim.Native.Nat.{ℕ, _+_, _*_}
 use mathlib.Core.Bool.{Bool, cond, _&&_}
 use mathlib.Core.List.{List, []}

@@ -1,4 +1,5 @@
--- What a card's numbers and places say over a file, whatever they are. Assumes nothing.
+-- What a card's numbers and places say over a file, whatever they are: its certificates, then its content. What a file says by itself is
+-- Content.antt; that a card that was read says it: proofs/Values.antt. A record's certificate: record/specs/Parts.antt.
 use Prim.Native.Nat.{ℕ, _+_, _*_}
 use mathlib.Core.List.{List, map}
 use lib.ListN.{take}

@@ -1,4 +1,5 @@
--- A list of no records that `Roots::new` and `Bundle::new` promise is the fresh one. Assumes nothing.
+-- A list of no records that `Roots::new` and `Bundle::new` promise is the fresh one (`roots-fresh`, `bundle-fresh`), for the proofs of
+-- `no_roots` and `no_bundle` and for card/proofs/Nothing.antt. What is fresh: specs/Certificates.antt.
 use mathlib.Core.Path.{_≡_, ap₂}
 use lib.ListN.{replicate}
 use Rattle.places.specs.Limits.{rootsMost, bundleMost}

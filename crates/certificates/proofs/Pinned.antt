@@ -1,5 +1,5 @@
--- No two readings of roots say the same, and no two of a bundle: what `roots_after` and `bundle_after` promise pins their answers down, a
--- section that was read and a fault alike. Assumes nothing.
+-- No two readings of roots say the same, and no two of a bundle (`roots-pins`, `bundle-pins`): what `roots_after` and `bundle_after`
+-- promise pins their answers down, a section that was read and a fault alike. By `held-pins` of fields/proofs/Pinned.antt.
 use mathlib.Core.Path.{_≡_, ap}
 use Rattle.fields.specs.Answers.{held, Emptied}
 use Rattle.fields.specs.declared.Past.{Past}

@@ -1,6 +1,6 @@
--- Records in so many places, for any number of places: a loop that has filled them has read a row, whatever value is made of its
--- count and its records (`row-ends`); how many records there are (`size-within`); and the record at a place by the
--- tests of its place (`record-none`, `record-outside`, `record-there`). Assumes nothing.
+-- Records in so many places, for any number of places: a loop that has filled them has read a row, whatever value is made of its count and
+-- its records (`row-ends`); how many records there are (`size-within`); and the record at a place by the tests of its place (`record-none`,
+-- `record-outside`, `record-there`). The loop's turns: fields/proofs/Filling.antt.
 use Prim.Native.Nat.{ℕ, _<_, _≤_}
 use mathlib.Core.Path.{_≡_, refl}
 use mathlib.Core.Bool.{Bool, true, false, cond}

@@ -1,5 +1,6 @@
 -- What roots and a bundle that were read say of their records: how many they are (`roots-read`, `bundle-read`), the record at a place
--- (`record-of`), and that each was read somewhere in the file (`record-stands`). Assumes nothing.
+-- (`record-of`), and that each was read somewhere in the file (`record-stands`). For card/proofs/Sections.antt and those after it; what a
+-- record that was read says: record/proofs/Meaning.antt.
 use Prim.Native.Nat.{ℕ, _-_, _<_, _≤_}
 use mathlib.Core.Path.{_≡_, refl, sym, ap, _∙_}
 use mathlib.Core.List.{List}

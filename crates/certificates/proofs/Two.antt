@@ -1,6 +1,6 @@
--- Two places stay two: of roots or a bundle that were read no two places hold the same record, since each record has its names at a
--- place of its own (`two-places`). With equal bytes at root places 0 and 1 the certificates there are equal; the records are not, and
--- the places are two. Assumes nothing.
+-- Two places stay two: of roots or a bundle that were read no two places hold the same record, since each record has its names at a place
+-- of its own (`two-places`, for card/proofs/Two.antt). With equal bytes at root places 0 and 1 the certificates there are equal; the
+-- records are not, and the places are two.
 use Prim.Native.Nat.{ℕ, zero, suc, _+_, _<_, _≤_}
 use mathlib.Core.Path.{_≡_, refl, sym, ap, _∙_}
 use mathlib.Core.Bool.{Bool, true, false}

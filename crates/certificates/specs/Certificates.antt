@@ -1,5 +1,7 @@
--- The two lists of certificates in a card file, roots and bundle: how they stand in a file, each after its count, and the record at a
--- place (docs/CARD-FILE.md, "Layout"). What is found are numbers and places in the file. Assumes nothing.
+-- The two lists of certificates in a card file, roots and bundle (docs/CARD-FILE.md, "Layout"): how they stand in a file, each after its
+-- count; what stands where nothing was read; and the record at a place. What is found are numbers and places in the file.
+-- Not here: a record (record/specs/Record.antt); the limits (places/specs/Limits.antt); the certificates as values (`sectionsP` of
+-- card/specs/Content.antt).
 use Prim.Native.Nat.{ℕ, _-_}
 use mathlib.Core.Bool.{cond}
 use mathlib.Core.List.{List, _++_}

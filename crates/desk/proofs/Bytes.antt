@@ -1,4 +1,4 @@
--- A yes or no as the byte that the code makes of it. Assumes nothing.
+-- A yes or no as the byte that the code makes of it.
 use mathlib.Core.Bool.{Bool, true, false}
 use mathlib.Core.Path.{_≡_, refl}
 use mir.Val.{boolByte}

@@ -1,3 +1,4 @@
+pub mod Asked
 pub mod Bytes
 pub mod Numbers
 pub mod One

@@ -1,4 +1,4 @@
--- A path's places turned into bytes, one after the other. Assumes nothing.
+-- A path's places turned into bytes, one after the other.
 use mathlib.Core.Path.{_≡_, refl, ap}
 use mathlib.Core.List.{List, [], _∷_, _++_}
 use Prim.Native.Nat.{ℕ, zero, suc, _+_, _<_}

@@ -1,4 +1,4 @@
--- Flags and answers as C has them. Assumes nothing.
+-- Flags and answers as C has them.
 use mathlib.Core.Bool.{Bool, cond, not}
 use Prim.Native.Nat.{ℕ}
 use lib.Dec.{eqb}

@@ -1,4 +1,4 @@
--- An answer in plain numbers. Assumes nothing.
+-- An answer in plain numbers.
 use mathlib.Core.List.{List, map}
 use mathlib.Core.Path.{_≡_}
 use Prim.Native.Nat.{ℕ}

@@ -1,10 +1,12 @@
 // The published face: the questions that a terminal asks, each as a Rattle function under its own name and as `savuneco_..` for C.
-// The crates below answer them; here their answers become plain numbers, and C's flags yes or no.
+// The crates below answer them; here their answers become plain numbers, and C's flags yes or no. What a file asks is told in plain
+// numbers alone (`savuneco_task`).
 mod addresses;
 mod identity;
 mod plain;
 mod relations;
 mod searching;
+mod tasks;
 mod texts;
 
 pub use addresses::savuneco_ip_addr_in_range;
@@ -37,6 +39,8 @@ pub use searching::savuneco_slots;
 pub use subtree::is_subtree_of;
 pub use subtree::is_subtree_rdn;
 pub use subtree::rdn_has_name;
+pub use tasks::Asked;
+pub use tasks::savuneco_task;
 pub use text::Normalized;
 pub use text::match_name;
 pub use text::normalize_string;

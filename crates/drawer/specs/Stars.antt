@@ -1,5 +1,5 @@
--- The eleven worked cases that are proved, as one table over the definitions, and one theorem. The program runs the others.
--- Assumes nothing.
+-- The eleven worked cases that are proved, as one table over the definitions, and one theorem, `stars`. The program runs the others, which
+-- stand in its `stdin` with their answers in `stdout`. The laws on all inputs stand in the proofs of text, keys, same and subtree.
 use Prim.Native.Nat.{ℕ}
 use Prim.Native.Char.{code}
 use Prim.Native.String.{String}

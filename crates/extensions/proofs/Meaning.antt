@@ -1,4 +1,6 @@
--- What extensions that were read hold: the limits of their parts, and the lists that stand at their places. Assumes nothing.
+-- What extensions that were read hold: the limits of their parts, and the lists that stand at their places (`extensions-read`, for
+-- record/proofs/Meaning.antt and rules/proofs/Limits.antt). A list that was read: lists/proofs/Meaning.antt; where the parts stand:
+-- specs/Extensions.antt.
 use Prim.Native.Nat.{ℕ, _<_, _≤_}
 use mathlib.Core.Path.{_≡_}
 use mathlib.Core.Bool.{Bool, true, false, cond}

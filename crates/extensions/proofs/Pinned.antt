@@ -1,4 +1,5 @@
--- No two answers say the same: what `extensions_at` and `key_ids_at` say pins their answers down. Assumes nothing.
+-- No two answers say the same: what `extensions_at` and `key_ids_at` say pins their answers down (`extended-pins`, `identified-pins`). What
+-- they say: specs/Answers.antt.
 use mathlib.Core.Path.{_≡_, refl, ap}
 use Rattle.fields.specs.Fields.{Parsed, got, stop}
 use Rattle.fields.proofs.Pinned.{pins, faultOf, fault-again}

@@ -1,5 +1,6 @@
 -- The extensions of a record by their values are what stands where their reader found them: the parts that the flags announce, and the
--- lists, whatever is made of them (`key-ids-valued`, `extensions-valued`). Assumes nothing.
+-- lists, whatever is made of them (`key-ids-valued`, `extensions-valued`), for record/proofs/Values.antt. By their places:
+-- specs/Extensions.antt; what is said of any reader: fields/proofs/Values.antt.
 use Prim.Native.Nat.{ℕ}
 use mathlib.Core.Path.{_≡_, refl, sym, _∙_}
 use mathlib.Core.Bool.{Bool, true, false, cond}

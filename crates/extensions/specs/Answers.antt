@@ -1,4 +1,5 @@
--- What each case of an answer stands for: the values and the place past them, or the number of the fault. Assumes nothing.
+-- What each case of an answer stands for: the values and the place past them, or the number of the fault. The values are those of
+-- Extensions.antt; that no two answers say the same: proofs/Pinned.antt.
 use Rattle.fields.specs.Fields.{Parsed, got, stop}
 use Rattle.fields.specs.Answers.{number}
 use Rattle.fields.specs.declared.string.Span.{Span}

@@ -1,5 +1,6 @@
 -- Where a record's extensions stand, for readers that copy nothing: the parts that its flags announce, then its lists, each with its
--- limits, judged from left to right. Assumes nothing.
+-- limits, judged from left to right. What the flags say: Flags.antt; the lists: lists/specs/Runs.antt; the same by values, in a
+-- certificate: record/specs/Certificate.antt, joined to this in proofs/Values.antt.
 use Prim.Native.Nat.{ℕ}
 use mathlib.Core.Bool.{Bool, cond}
 use mathlib.Core.List.{List}

@@ -1,4 +1,6 @@
--- What the flags of a record say, and the limits of the parts that they announce (docs/CARD-FILE.md, "Record"). Assumes nothing.
+-- What the flags of a record say, and the limits of the parts that they announce (docs/CARD-FILE.md, "Record"). A reader must believe this
+-- file (docs/MAP.md).
+-- Not here: which flag needs which (`paired` of record/specs/Certificate.antt); where the parts stand (Extensions.antt).
 use Prim.Native.Nat.{ℕ, _/_, _%_}
 use mathlib.Core.Bool.{Bool}
 use lib.Dec.{eqb}

@@ -1,4 +1,6 @@
--- A thing that was read after another, taken apart: what was read first and what next, for any things. Assumes nothing.
+-- A thing that was read after another, taken apart, for any things: what was read first and what next (`after-got`), and what was judged
+-- (`judged-got`). Used wherever something is said of a thing that was read. Single things: Counts.antt, Strings.antt; a row of them:
+-- Many.antt.
 use Prim.Native.Nat.{ℕ}
 use mathlib.Core.Path.{_≡_, refl}
 use mathlib.Core.Bool.{Bool, true, false, cond}

@@ -1,5 +1,5 @@
--- A big-endian number, byte by byte: what a loop that takes one byte more needs, and that the number fits its bytes.
--- Assumes nothing.
+-- A big-endian number, byte by byte: what a loop that takes one byte more needs (`big-step`, `big-fits`), and what the reader finds
+-- (`big-cut`, `big-got`). For the proofs of `big_endian` and `number_at`; the number itself: `bigEndian` and `bigP` of specs/Fields.antt.
 use Prim.Native.Nat.{ℕ, _+_, _-_, _*_, _^_, _<_, _≤_}
 use mathlib.Core.Path.{_≡_, refl}
 use mathlib.Core.List.{List, [], _∷_, _++_}

@@ -1,5 +1,5 @@
--- A count by its byte and its range: one law for each answer of a reader of counts, and what a count that was read tells.
--- Assumes nothing.
+-- A count by its byte and its range: one law for each answer of `count_at` (`count-cut`, `count-below`, `count-above`, `count-got`), and
+-- what a count that was read tells (`count-read`, `byte-few`). The count itself: `countP` of specs/Fields.antt.
 use Prim.Native.Nat.{ℕ, _+_, _<_, _≤_}
 use mathlib.Core.Path.{_≡_, refl}
 use mathlib.Core.Bool.{Bool, true, false, cond, _&&_}

@@ -1,4 +1,5 @@
--- From where a thing ends to the thing, for any thing. Assumes nothing.
+-- From where a thing ends to the thing, for any thing: it was read (`passing-got`), or can't be (`passing-stops`). For readers that answer
+-- a place alone; where the thing's value does not matter: Held.antt.
 use Prim.Native.Nat.{ℕ}
 use mathlib.Core.Path.{_≡_}
 use native.Mathlib.Omega.{arith}

@@ -1,6 +1,6 @@
--- A loop that reads so many of a thing into places that are at first all the same, for any thing and any number of places:
--- its beginning (`filling-starts`), a turn that fills a place (`filling-goes-on`), a turn that stops (`filling-stops`), and its end
--- (`filling-ends`). Assumes nothing.
+-- A loop that reads so many of a thing into places that are at first all the same, for any thing and any number of places: its beginning
+-- (`filling-starts`), a turn that fills a place (`filling-goes-on`), a turn that stops (`filling-stops`), and its end (`filling-ends`). For
+-- the records of certificates; a loop that keeps nothing: Many.antt.
 use Prim.Native.Nat.{ℕ, zero, suc, _+_, _-_, _<_, _≤_}
 use mathlib.Core.Path.{_≡_, refl, sym, ap, _∙_}
 use mathlib.Core.List.{List, [], _∷_, _++_, append-nil}

@@ -1,6 +1,6 @@
 -- Readers that go from left to right: the bytes up to where a reader stops decide what it finds, and with fewer of them the file is cut
 -- short. A value (`at-hand`), a judged value (`judged`), a thing that is read where a test holds (`judging`), and one reader after another
--- (`then`). The readers of `specs/Fields` are in `ForwardFields`. Assumes nothing.
+-- (`then`). The readers of specs/Fields.antt are in ForwardFields.antt; what it is for: card/proofs/LeftToRight.antt.
 use Prim.Native.Nat.{ℕ, _<_, _≤_}
 use mathlib.Core.Path.{_≡_, refl, sym, ap, _∙_}
 use mathlib.Core.Bool.{Bool, true, false, cond}

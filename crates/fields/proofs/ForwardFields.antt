@@ -1,5 +1,6 @@
--- The readers of `specs/Fields` go from left to right: a count and bytes by what they are, the others as readers one after another.
--- Assumes nothing.
+-- The readers of specs/Fields.antt go from left to right: a count (`count-forward`) and bytes (`bytes-forward`) by what they are, the
+-- others as readers one after another. What that means: Forward.antt; the readers made of these: the Forward.antt of names, lists, record,
+-- verdicts, task and card.
 use Prim.Native.Nat.{ℕ, zero, suc, _+_, _<_, _≤_}
 use mathlib.Core.Path.{_≡_, refl, sym, ap, _∙_}
 use mathlib.Core.Bool.{Bool, true, false, cond, _&&_}

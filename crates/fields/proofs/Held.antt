@@ -1,4 +1,6 @@
--- From where a thing ends to what is read after it, where the thing's value does not matter. Assumes nothing.
+-- From where a thing ends to what is read after it, where the thing's value does not matter (`after-end`); a value held beside the place
+-- past a thing (`as-told`, `held-after`). For the readers that hand on sections, in card, task and verdicts. From the end to the thing
+-- itself: Ends.antt.
 use Prim.Native.Nat.{ℕ}
 use mathlib.Core.Path.{_≡_, refl, sym, ap, _∙_}
 use Rattle.fields.specs.Fields.{Parsed, got, stop, after}

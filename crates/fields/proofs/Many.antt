@@ -1,6 +1,6 @@
--- So many of a thing in a row, for any thing: a loop that counts down (`many-none`, `many-some`), the first and the rest
--- (`many-split`), the first m and the rest (`many-prefix`), how many were read, what stands at a place of the row (`many-nth`).
--- Assumes nothing.
+-- So many of a thing in a row, for any thing: a loop that counts down (`many-none`, `many-some`), the first and the rest (`many-split`),
+-- the first m and the rest (`many-prefix`), how many were read, what stands at a place of the row (`many-nth`). A loop that keeps what it
+-- reads: Filling.antt; a count before the row: names/proofs/Counted.antt, lists/proofs/Runs.antt.
 use Prim.Native.Nat.{ℕ, zero, suc, _-_, _<_, _≤_}
 use mathlib.Core.Path.{_≡_, refl, sym, ap, _∙_}
 use mathlib.Core.List.{List, [], _∷_}

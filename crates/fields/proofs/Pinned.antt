@@ -1,5 +1,5 @@
--- No two answers say the same: what an answer stands for pins the answer down, since a fault is found again from its number.
--- Assumes nothing.
+-- No two answers say the same: what an answer stands for pins the answer down, since a fault is found again from its number. `pins`,
+-- `faultOf` and `held-pins` are for the Pinned.antt of the crates above. What the answers stand for: specs/Answers.antt.
 use Prim.Native.Nat.{ℕ}
 use mathlib.Core.Path.{_≡_, refl, sym, ap, ap₂, _∙_}
 use mathlib.Core.Bool.{cond}

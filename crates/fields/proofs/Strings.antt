@@ -1,5 +1,6 @@
--- A string's span by its length, and a span's bytes: one law for each answer of a reader of strings, what a string that was
--- read tells, and the string by its span. Assumes nothing.
+-- A string's span by its length (`span-stops`, `span-cut`, `span-got`), and a span's bytes: one law for each answer of `string_at` and
+-- `part`; what a string that was read tells (`span-read`), and the string by its span (`string-by-span`). Spans: specs/Spans.antt; strings:
+-- specs/Fields.antt.
 use Prim.Native.Nat.{ℕ, _+_, _-_, _<_, _≤_}
 use mathlib.Core.Path.{_≡_, refl, sym, ap, _∙_}
 use mathlib.Core.Bool.{Bool, true, false, cond}

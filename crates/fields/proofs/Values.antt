@@ -1,5 +1,6 @@
 -- A thing read by its value and the same thing read by its place: what one finds is what stands where the other found it, with the same
--- faults; for any readers, one after the other, so many in a row, and read again. Assumes nothing.
+-- faults; for any readers, one after the other, so many in a row, and read again. It is for the Values.antt of lists, extensions, record,
+-- verdicts, task and card, which join what a file says to where it stands.
 use Prim.Native.Nat.{ℕ, zero, suc}
 use mathlib.Core.Path.{_≡_, refl, sym, ap, _∙_}
 use mathlib.Core.List.{List, map}

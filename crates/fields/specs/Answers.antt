@@ -1,5 +1,5 @@
--- What each case of an answer stands for: the paper's number of a fault, the values of what was read.
--- Assumes nothing.
+-- What each case of an answer stands for: the paper's number of a fault, the values of what was read, and a value held beside the place
+-- past it. What a reader must find: Fields.antt and Spans.antt; that no two answers say the same: proofs/Pinned.antt.
 use Prim.Native.Nat.{ℕ}
 use mathlib.Core.Path.{_≡_}
 use Rattle.fields.specs.Fields.{Parsed, got, stop}

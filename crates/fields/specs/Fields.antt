@@ -1,6 +1,6 @@
--- What stands at a place of a card file: a count, a string, a number, so many of a thing in a row.
--- Each definition gives the value and the place past it, or the reply's number, judged from left to right.
--- Assumes nothing.
+-- What stands at a place of a card file (docs/CARD-FILE.md, "Layout"): a count, a string, a number, so many of a thing in a row. Each gives
+-- its value and the place past it, or the reply's number, judged from left to right. A reader must believe this file (docs/MAP.md).
+-- Not here: where a string stands (Spans.antt); the replies 4 and 5 (card/specs/Content.antt), and 8, given where a byte's value is judged.
 use Prim.Native.Nat.{ℕ, zero, suc, _+_, _*_}
 use mathlib.Core.Bool.{Bool, cond, _&&_}
 use mathlib.Core.List.{List, [], _∷_}

@@ -1,4 +1,5 @@
--- Where a string stands, for readers that copy nothing: its span, the bytes of a span, and a list that is read again. Assumes nothing.
+-- Where a string stands, for readers that copy nothing: its span, the bytes of a span, and a list that is read again. The string by its
+-- value: `stringP` of Fields.antt; that the two read the same: `string-by-span` of proofs/Strings.antt.
 use Prim.Native.Nat.{ℕ, _+_, _-_}
 use mathlib.Core.Bool.{cond, _&&_}
 use mathlib.Core.List.{List, []}

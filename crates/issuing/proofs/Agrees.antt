@@ -1,6 +1,7 @@
 -- Who issued whom by records and by what the file says are the same: for two records that stand in the file (`likely-read`), and for the
--- rows of a card that was read, at every two places (`bundle-row-agrees`, `root-row-agrees`); past the counts both are no. On the way:
--- the certificate at a place is what its record says (`root-is`, `bundled-is`). Assumes nothing.
+-- rows of a card that was read, at every two places (`bundle-row-agrees`, `root-row-agrees`); past the counts both are no. On the way: the
+-- certificate at a place is what its record says (`root-is`, `bundled-is`). For policy and question. By records: specs/Records.antt; by
+-- what the file says: specs/Issued.antt.
 use Prim.Native.Nat.{ℕ, zero, suc, _<_, _≤_}
 use mathlib.Core.Path.{_≡_, refl, sym, ap, ap₂, _∙_}
 use mathlib.Core.Bool.{Bool, true, false, cond, _&&_}

@@ -1,5 +1,6 @@
--- What the code's tests of names and key identifiers come to, for an issuer and a subject whose claim is at hand: flags and parts as
--- bytes give `keys-fit`; with that asked first, the names give `likely-names` and `likely-none`. Assumes nothing.
+-- What the code's tests of names and key identifiers come to, for an issuer and a subject whose claim is at hand: flags and parts as bytes
+-- give `keys-fit`; with that asked first, the names give `likely-names` and `likely-none`. For the proofs of src/likely.rt; what is asked:
+-- specs/Records.antt.
 use Prim.Native.Nat.{ℕ}
 use mathlib.Core.Path.{_≡_, refl, sym, _∙_}
 use mathlib.Core.Bool.{Bool, true, false, _&&_}

@@ -1,5 +1,6 @@
--- Those that issued any. Who stands in one of the rows is among them (`issuer-among`). The loop takes the rows from the last to the first: it
--- begins with none (`issuers-none`), and each turn takes one row in (`issuers-more`). Assumes nothing.
+-- Those that issued any. Who stands in one of the rows is among them (`issuer-among`, for policy/proofs/Qualified.antt). The loop of
+-- `issuers_of` takes the rows from the last to the first: it begins with none (`issuers-none`), and each turn takes one row in
+-- (`issuers-more`).
 use Prim.Native.Nat.{ℕ, zero, suc, _-_, _≤_, _<_}
 use mathlib.Core.Bool.{true, or-true, false≢true}
 use mathlib.Core.List.{List, [], _∷_}

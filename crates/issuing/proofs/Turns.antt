@@ -1,6 +1,7 @@
 -- The turns of the loops. A row, over any verdicts and any records: it begins with no place (`row-starts`), a turn passes a place whose
 -- verdict is no (`row-unsigned`) or whose record is not a likely issuer's (`row-unlikely`), or joins it (`row-joined`), and it ends with
--- each place asked (`row-whole`). A row for each subject, over any numbers: `rows-start`, `rows-turn`, `rows-whole`. Assumes nothing.
+-- each place asked (`row-whole`). A row for each subject, over any numbers, in `who_issued`: `rows-start`, `rows-turn`, `rows-whole`. The
+-- rows: specs/Records.antt.
 use Prim.Native.Nat.{ℕ, _+_, _<_, _≤_}
 use mathlib.Core.Path.{_≡_, sym, ap, _∙_}
 use mathlib.Core.Bool.{Bool, true, false, _&&_}

@@ -1,4 +1,7 @@
--- Who issued whom (docs/CARD-FILE.md, "Who issued whom"). Assumes nothing.
+-- Who issued whom (docs/CARD-FILE.md, "Who issued whom"; upstream's `likely_issued` and `issued`): key identifiers that fit, likely issued,
+-- issued. A reader must believe this file (docs/MAP.md).
+-- Not here: when names are the same (same/specs/Same.antt); the authority key id check (keys/specs/AuthKeyId.antt); the verdict (`signed`
+-- of card/specs/Content.antt); the same of records (Records.antt), joined to this in proofs/Agrees.antt.
 use Prim.Native.Nat.{ℕ}
 use mathlib.Core.Bool.{Bool, true, _&&_}
 use Rattle.same.specs.Same.{sameDn}

@@ -1,5 +1,6 @@
--- What Issued says of certificates, said of records as they are, whether a reader made them or not: names of the same bytes are the
--- same, and else one that can't be read is no one's. Assumes nothing.
+-- What Issued.antt says of certificates, said of records as they are, whether a reader made them or not: names of the same bytes are the
+-- same, and else one that can't be read is no one's. Then a row for each subject, and who issued any. That it is the same on a card that
+-- was read: proofs/Agrees.antt.
 use Prim.Native.Nat.{ℕ}
 use mathlib.Core.Bool.{Bool, true, _&&_}
 use mathlib.Core.List.{List, [], _∷_}

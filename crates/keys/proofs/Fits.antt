@@ -1,4 +1,5 @@
--- When optional key ids agree, and what `checkAuthKeyId` comes to at each return of `check_auth_key_id`. Assumes nothing.
+-- When optional key ids agree (`both-given`, `second-absent`, `first-absent`), and what `checkAuthKeyId` comes to at each return of
+-- `check_auth_key_id` (`unlike`, `alike`). Definitions: specs/AuthKeyId.antt, specs/Given.antt; upstream's own clause: Upstream.antt.
 use Prim.Native.Nat.{ℕ}
 use mathlib.Core.Path.{_≡_}
 use mathlib.Core.Bool.{Bool, true, false}

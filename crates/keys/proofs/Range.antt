@@ -1,5 +1,5 @@
--- The laws of an address held to a range, as the loop of `agrees` and the returns of `ip_addr_in_range` need them.
--- Assumes nothing.
+-- The laws of an address held to a range, as the loop of `agrees` (`masked-here`, `masked-next`, `masked-end`) and the returns of
+-- `ip_addr_in_range` (`outside`, `inside`) need them. Definitions: specs/Address.antt; upstream's own clause: Upstream.antt.
 use Prim.Native.Nat.{ℕ, _+_, _*_, _<_, _≤_}
 use mathlib.Core.Path.{_≡_, refl, _∙_}
 use mathlib.Core.Bool.{Bool, true, false, _&&_, _||_}

@@ -1,5 +1,6 @@
 -- Verdict's clauses of `ip_addr_in_range`, for either kind of address a quantifier over places (`in-range-upstream`), and of
--- `check_auth_key_id`, a nested match (`auth-key-id-upstream`), given by our definitions. Assumes nothing.
+-- `check_auth_key_id`, a nested match (`auth-key-id-upstream`), given by our definitions (specs/Address.antt, specs/AuthKeyId.antt). Where
+-- both differ from RFC 5280: docs/DIFFERENCES.md, F4 and F5.
 use Prim.Native.Nat.{ℕ, _+_, _*_, _<_}
 use mathlib.Core.Path.{_≡_, refl}
 use mathlib.Core.Bool.{Bool, true, _&&_}

@@ -1,4 +1,5 @@
--- When an address lies in a range (upstream's `ip_addr_in_range`). Assumes nothing.
+-- When an address lies in a range (upstream's `ip_addr_in_range`; docs/CARD-FILE.md, "Keys and addresses"; RFC 5280, 4.2.1.10, but with any
+-- mask: docs/DIFFERENCES.md, F5). No rule of the policy asks for it. Upstream's clause: proofs/Upstream.antt.
 use Prim.Native.Nat.{ℕ, _*_}
 use mathlib.Core.Bool.{Bool, true, _&&_, _||_}
 use mathlib.Core.List.{List, [], _∷_}

@@ -1,4 +1,4 @@
--- A part and its flag, as code and C hand them over. Assumes nothing.
+-- A part and its flag, as code and C hand them over. What is asked of such parts: AuthKeyId.antt.
 use Prim.Native.Nat.{ℕ}
 use mathlib.Core.Bool.{Bool, true, false}
 use mathlib.Core.List.{List}

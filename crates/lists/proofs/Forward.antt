@@ -1,4 +1,5 @@
--- A usage and a DNS name are read from left to right. Assumes nothing.
+-- A usage and a DNS name are read from left to right (`usage-forward`, `dns-name-forward`), for record/proofs/Forward.antt. What that
+-- means: fields/proofs/Forward.antt.
 use lib.Dec.{leb}
 use Rattle.fields.proofs.Forward.{Forward, value, judged, then}
 use Rattle.fields.proofs.ForwardFields.{byte-forward, string-forward}

@@ -1,4 +1,6 @@
--- What a list that was read holds: as many things as it says, within its limit, each of them what its reader tells. Assumes nothing.
+-- What a list that was read holds: as many things as it says, within its limit (`run-read`), each of them what its reader tells
+-- (`run-each`; `usage-few`, `dns-name-bounded`). For extensions/proofs/Meaning.antt and rules/proofs/AnyOf.antt; where a list stands:
+-- specs/Runs.antt.
 use Prim.Native.Nat.{ℕ, _<_, _≤_}
 use mathlib.Core.Path.{_≡_, sym, _∙_}
 use mathlib.Core.List.{List}

@@ -1,4 +1,5 @@
--- No two answers say the same: what `usages_at` and `dns_names_at` say pins their answer down. Assumes nothing.
+-- No two answers say the same: what `usages_at` and `dns_names_at` say pins their answer down (`listed-pins`). What they say:
+-- specs/Answers.antt.
 use mathlib.Core.Path.{_≡_, refl, ap}
 use Rattle.fields.specs.Fields.{Parsed, got, stop}
 use Rattle.fields.proofs.Pinned.{pins, faultOf, fault-again}

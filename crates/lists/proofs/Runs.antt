@@ -1,6 +1,6 @@
--- A loop that counts down past so many of a thing, for any thing: a turn that passes one (`run-next`), a turn that stops
--- (`run-stops`), and its end (`run-ends`). Then a list by its count and its things: both are there (`list-got`), a thing is not
--- (`list-stops`), and the count is not (`list-uncounted`). Assumes nothing.
+-- A loop that counts down past so many of a thing, for any thing: a turn that passes one (`run-next`), a turn that stops (`run-stops`), and
+-- its end (`run-ends`). Then a list by its count and its things: both are there (`list-got`), a thing is not (`list-stops`), and the count
+-- is not (`list-uncounted`). For src/usages.rt and src/dns_names.rt; what a list that was read holds: Meaning.antt.
 use Prim.Native.Nat.{ℕ, _-_, _<_, _≤_}
 use mathlib.Core.Path.{_≡_, sym, _∙_}
 use mathlib.Core.List.{List}

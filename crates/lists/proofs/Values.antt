@@ -1,4 +1,5 @@
--- A list by its value is what stands where its reader found it (`run-valued`). Assumes nothing.
+-- A list by its value is what stands where its reader found it (`run-valued`), for extensions/proofs/Values.antt. By its place:
+-- specs/Runs.antt; what is said of any reader: fields/proofs/Values.antt.
 use Prim.Native.Nat.{ℕ}
 use mathlib.Core.Path.{_≡_, sym, _∙_}
 use mathlib.Core.List.{List}

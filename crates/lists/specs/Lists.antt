@@ -1,4 +1,6 @@
--- What the lists of a record hold: usages and DNS names, each within its limit (docs/CARD-FILE.md, "Record"). Assumes nothing.
+-- What the lists of a record hold: usages and DNS names, each within its limit (docs/CARD-FILE.md, "Record"). A reader must believe this
+-- file (docs/MAP.md).
+-- Not here: the lists with their counts (`certificateP` of record/specs/Certificate.antt); where they stand (Runs.antt).
 use Prim.Native.Nat.{ℕ}
 use mathlib.Core.Bool.{cond}
 use mathlib.Core.List.{List}

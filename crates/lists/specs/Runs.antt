@@ -1,5 +1,5 @@
--- Where a record's lists stand, for readers that copy nothing: how many things a list has and where the first one stands.
--- Assumes nothing.
+-- Where a record's lists stand, for readers that copy nothing: how many things a list has and where the first one stands. A usage and a DNS
+-- name themselves, and the limits: Lists.antt; that a list by its value is the same: proofs/Values.antt.
 use Prim.Native.Nat.{ℕ}
 use mathlib.Core.List.{List}
 use Rattle.fields.specs.Fields.{Parsed, got, after, countP, many}

@@ -1,5 +1,5 @@
--- The same bytes again are the same name: what is read depends on the bytes that it is read from and not on their place
--- (`name-alike`, `bytes-alike`). Assumes nothing.
+-- The same bytes again are the same name: what is read depends on the bytes that it is read from and not on their place (`name-local`,
+-- `bytes-alike`), for same/proofs/Spans.antt. In order: any things, strings, names. What a name is: specs/Names.antt.
 use Prim.Native.Nat.{ℕ, zero, suc, _+_, _-_, _<_, _≤_}
 use mathlib.Core.Path.{_≡_, sym, ap, ap₂, _∙_}
 use mathlib.Core.List.{List, [], _∷_}

@@ -1,5 +1,6 @@
--- What the answer of a reader of attributes tells: the attribute that stands there, whose value is short, or the fault.
--- Assumes nothing.
+-- What the answer of a reader of attributes tells: the attribute that stands there, whose value is short (`attr-read`), or the fault
+-- (`attr-stops`). For the callers of `attribute_at`, here and in same; an attribute by its places: specs/Answers.antt, by its value:
+-- specs/Names.antt.
 use Prim.Native.Nat.{ℕ}
 use mathlib.Core.Path.{_≡_, refl, sym, ap, _∙_}
 use mathlib.Core.List.{List}

@@ -1,4 +1,5 @@
--- Where a count and so many things end: where the things do (`counted-ends`), and nowhere without the count (`uncounted`). Assumes nothing.
+-- Where a count and so many things end: where the things do (`counted-ends`), and nowhere without the count (`uncounted`). For the proofs
+-- of `rdn_at` and `name_at`; the things in a row: fields/proofs/Many.antt.
 use Prim.Native.Nat.{ℕ}
 use mathlib.Core.List.{List}
 use mathlib.Core.Path.{_≡_}

@@ -1,4 +1,5 @@
--- An attribute, an RDN and a name are read from left to right. Assumes nothing.
+-- An attribute, an RDN and a name are read from left to right (`attr-forward`, `rdn-forward`, `name-forward`), for
+-- record/proofs/Forward.antt. What that means: fields/proofs/Forward.antt.
 use Rattle.fields.proofs.Forward.{Forward, at-hand, then}
 use Rattle.fields.proofs.ForwardFields.{string-forward, counted-forward}
 use Rattle.names.specs.Names.{oidMost, valueMost, rdnMost, nameMost, attrP, rdnP, nameP}

@@ -1,5 +1,6 @@
--- Arguments that are judged through, for any thing: what a reader of a whole argument has to show at each of its returns, and what
--- its answer tells of the argument. Assumes nothing.
+-- Arguments that are judged through, for any thing: what a reader of a whole argument has to show at each of its returns (`left-over`,
+-- `fills`, `bad`), and what its answer tells of the argument (`holds`, `stops`), for the six relations of same and subtree. What a relation
+-- then answers: same/proofs/Asked.antt; a whole argument: `whole` of fields/specs/Fields.antt.
 use Prim.Native.Nat.{ℕ, _<_, _≤_}
 use mathlib.Core.Path.{_≡_, refl, sym, ap, _∙_}
 use mathlib.Core.Bool.{Bool, true, false, cond}

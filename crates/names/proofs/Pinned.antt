@@ -1,4 +1,5 @@
--- No two answers say the same: what a reader of this crate says pins its answer down. Assumes nothing.
+-- No two answers say the same: what `attribute_at`, `rdn_begins` and `name_begins` say pins their answer down (`attributed-pins`,
+-- `rdn-begun-pins`, `name-begun-pins`). What they say: specs/Answers.antt.
 use Prim.Native.Nat.{ℕ}
 use mathlib.Core.Path.{_≡_, refl, ap}
 use Rattle.fields.specs.Fields.{Parsed, got, stop}

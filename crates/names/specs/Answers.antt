@@ -1,4 +1,5 @@
--- What each case of an answer stands for, and what stands at the places that it tells. Assumes nothing.
+-- What each case of an answer stands for, and what stands at the places that it tells. Attributes, RDNs and names by their values:
+-- Names.antt; that no two answers say the same: proofs/Pinned.antt.
 use Prim.Native.Nat.{ℕ, _≤_}
 use mathlib.Core.List.{List}
 use lib.ListN.{length}

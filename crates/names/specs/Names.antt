@@ -1,4 +1,6 @@
--- What an attribute, an RDN and a name are, as the card file has them. Assumes nothing.
+-- What an attribute, an RDN and a name are, as the card file has them (docs/CARD-FILE.md, "Name"): limits, then what stands at a place. A
+-- reader must believe this file (docs/MAP.md).
+-- Not here: when two of them are the same (same/specs/Same.antt); where an attribute's parts stand (Answers.antt).
 use Prim.Native.Nat.{ℕ}
 use mathlib.Core.List.{List}
 use Rattle.fields.specs.Fields.{Parsed, got, after, stringP, countedP}

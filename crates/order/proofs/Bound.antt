@@ -1,4 +1,6 @@
--- How many paths can wait at once: of n certificates never more than the printed table has slots for n. Assumes nothing.
+-- How many paths can wait at once: of n certificates never more than the printed table has slots for n (`after-fits`, for the rooms of
+-- reply and steps). The numbers: specs/Slots.antt, with its laws in Formula.antt; what waits: Waiting.antt; that four certificates need all
+-- of it: Cases.antt.
 use mathlib.Core.List.{List, [], _∷_, _++_, List·Memᴰ·head as here, List·Memᴰ·tail as there}
 use mathlib.Core.Logic.{⊎-elim}
 use mathlib.Core.Path.{_≡_, refl}

@@ -1,4 +1,6 @@
--- The paper's case, n = 4 and all issue all: 16 paths, in this order, and at most 4 wait. Assumes nothing.
+-- The paper's case, n = 4 and all issue all: 16 paths, in this order (`four-listing`, `four-count`), and at most 4 wait, as 4 do after two
+-- steps (`four-most`, `four-wait`). By computing the walk of specs/Walk.antt. Nothing rests on it; what holds of all numbers is in
+-- Tree.antt, Rank.antt and Bound.antt.
 use mathlib.Core.Bool.{true}
 use mathlib.Core.List.{List, [], _∷_, flatMap}
 use mathlib.Core.Path.{refl}

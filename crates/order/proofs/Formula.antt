@@ -1,4 +1,6 @@
--- Laws of `slotsOf`: where it is the formula, where it is 0, and what lies between. Assumes nothing.
+-- Laws of `slotsOf`: where it is the formula (`slots-formula`), where it is 0 (`slots-past`), and that a full bundle needs the most
+-- (`slots-most`, for the room of report). That as many slots are enough: Bound.antt; that the printed table has these numbers: the proof of
+-- `slots`.
 use mathlib.Core.Path.{_≡_}
 use mathlib.Core.Logic.{⊎-elim}
 use Prim.Native.Nat.{ℕ, _+_, _-_, _*_, _/_, _≤_, _<_}

@@ -1,5 +1,6 @@
--- Laws of `among`, `Sorted` and `Lists`, for lists of any element type: first membership (of parts, of a flattened list, of the elements that pass a
--- test), then sorted lists, then what a listing is determined by. Nothing here speaks of paths. Assumes nothing.
+-- Laws of `among`, `Sorted` and `Lists`, for lists of any element type: first membership (of parts, of a flattened list, of the elements
+-- that pass a test), then sorted lists, then what a listing is determined by (`lists-unique`, `lists-before`). Nothing here speaks of
+-- paths: those are in Simple.antt and Tree.antt. Definitions: specs/Listing.antt.
 use mathlib.Core.Bool.{Bool, true, false}
 use mathlib.Core.List.{List, [], _∷_, _++_, map, flatMap, append-assoc, List·Memᴰ·head as here, List·Memᴰ·tail as there, List·Memᴰ·not-nil, List·Memᴰ·cases-cons, Memᴰ·append-left, Memᴰ·append-right, List·Memᴰ·append-cases, Memᴰ·of-map}
 use mathlib.Core.Logic.{_≢_, _⊎_, inl, inr, ⊎-elim}

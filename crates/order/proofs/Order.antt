@@ -1,4 +1,5 @@
--- `Before` is what the paper says in words, and a strict total order. Assumes nothing.
+-- `Before` is what the paper says in words (`before-is`), and a strict total order (`irrefl`, `trans`, `total`). It is defined in
+-- specs/Paths.antt; that the simple paths have one listing in it: Tree.antt.
 use mathlib.Core.List.{List, [], _∷_, _++_}
 use mathlib.Core.Logic.{_↔_, _≢_, _⊎_, inl, inr, ⊎-elim}
 use mathlib.Core.Path.{_≡_, refl, sym, ap, _∙_}

@@ -1,5 +1,6 @@
--- A path's rank is its place in the listing, counted from 1: each simple path has one rank, two have two, and there is one number of simple
--- paths. Assumes nothing.
+-- A path's rank is its place in the listing, counted from 1 (`rank-at`, `rank-is`): each simple path has one rank (`rank-exists`,
+-- `rank-unique`), two have two (`rank-tells`), and there is one number of simple paths (`count-exists`, `count-unique`). Rank and number:
+-- specs/Paths.antt; the listing: Tree.antt.
 use mathlib.Core.List.{List, []}
 use mathlib.Core.Path.{_≡_, refl, sym, ap, _∙_}
 use Prim.Native.Nat.{ℕ, suc, _<_}

@@ -1,4 +1,6 @@
--- Simple paths: their last place, their beginnings, the places by which one goes on, and how long one can be. Assumes nothing.
+-- Simple paths: their last place, their beginnings (`simple-prefix`), the places by which one goes on (`simple-snoc`, `next-lists`), and
+-- how long one can be (`simple-length`). What a simple path is: specs/Paths.antt; all that go on from one: Tree.antt; upstream's
+-- `is_simple_path`: search/proofs/Valid.antt.
 use mathlib.Core.Bool.{Bool, true, false, not, _&&_, _||_, and-eq-true-iff, false≢true}
 use mathlib.Core.List.{List, [], _∷_, _++_, cons≢nil, head-eq-of-cons-eq, List·Memᴰ·head as here, List·Memᴰ·tail as there, List·Memᴰ·not-nil, List·Memᴰ·cases-cons, Memᴰ·append-left, Memᴰ·append-right, List·Memᴰ·append-cases, List·Memᴰ·eq-of-singleton}
 use mathlib.Core.Logic.{_≢_, ⊎-elim}

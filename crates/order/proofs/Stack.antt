@@ -1,4 +1,5 @@
--- Upstream's stack hands the simple paths out in order, and holds what waits. Assumes nothing.
+-- Upstream's stack hands the simple paths out in order (`stack-rest`, `taken-is`), and holds what waits (`stack-waits`). The same of any
+-- listing, for those who speak of what waits: Waiting.antt. The stack: specs/Walk.antt; the walk that it follows: Tree.antt.
 use mathlib.Core.List.{List, [], _∷_, _++_, flatMap, dropLast, append-nil, List·Memᴰ·head as here, List·Memᴰ·tail as there, List·Memᴰ·not-nil, List·Memᴰ·append-cases, List·Memᴰ·eq-of-singleton, Memᴰ·append-left, Memᴰ·append-right, Memᴰ·cast}
 use mathlib.Core.Logic.{_⊎_, inl, inr, ⊎-elim}
 use mathlib.Core.Path.{_≡_, refl, sym, ap, _∙_}

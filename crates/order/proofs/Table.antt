@@ -1,4 +1,5 @@
--- A rule of a table, proved at all of its entries by one test that antt computes, one entry after the other. Assumes nothing.
+-- A rule of a table, proved at all of its entries by one test that antt computes, one entry after the other (`at`). For the proof of
+-- `slots`, with the formula of Formula.antt.
 use mathlib.Core.Path.{_∙_, subst, sym}
 use mathlib.Core.Bool.{Bool, true, false, _&&_}
 use mathlib.Core.List.{List, [], _∷_}

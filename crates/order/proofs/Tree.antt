@@ -1,4 +1,6 @@
--- The walk of the tree lists the simple paths: there is a listing, and only one. Assumes nothing.
+-- The walk of the tree lists the simple paths (`paths-listing`): there is a listing, and only one (`listing-exists`, `listing-unique`). In
+-- order: children, the walk, induction over the tree (`tree`), the walk with as much fuel as it needs, the listing. The walk:
+-- specs/Walk.antt; listings: specs/Paths.antt; the stack that follows it: Stack.antt.
 use mathlib.Core.List.{List, [], _∷_, _++_, flatMap, append-assoc, append-nil, concat-ne-nil, List·Memᴰ·head as here, List·Memᴰ·tail as there, List·Memᴰ·not-nil, List·Memᴰ·cases-cons, List·Memᴰ·eq-of-singleton, Memᴰ·map, Memᴰ·of-map}
 use mathlib.Core.Logic.{_⊎_, inl, inr, ⊎-elim}
 use mathlib.Core.Path.{_≡_, refl, sym, ap, _∙_}

@@ -1,4 +1,6 @@
--- What waits after k steps: it exists, there is only one, and how it goes from one step to the next, from the first to the end. Assumes nothing.
+-- What waits after k steps: it exists, there is only one (`after-exists`, `after-unique`), and how it goes from one step to the next, from
+-- the first to the end (`after-start`, `after-step`); upstream's stack holds it (`stack-after`). For reply, search and steps. What waits:
+-- specs/Waiting.antt; how many: Bound.antt.
 use mathlib.Core.List.{List, [], _∷_, _++_, flatMap, List·Memᴰ·head as here, List·Memᴰ·not-nil, Memᴰ·append-right}
 use mathlib.Core.Logic.{_↔_, ⊎-elim}
 use mathlib.Core.Path.{_≡_, refl, sym, ap, _∙_}

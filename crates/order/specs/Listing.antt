@@ -1,4 +1,6 @@
--- A list given by its elements and their order, with no word of how it is found. Assumes nothing.
+-- A list given by its elements and their order, with no word of how it is found: membership, sorted lists, the list of all of which
+-- something holds. A reader must believe this file (docs/MAP.md).
+-- For any elements: Paths.antt and Waiting.antt use it of paths. Its laws: proofs/Lists.antt.
 use mathlib.Core.List.{List, [], _∷_, List·Memᴰ}
 
 -- x stands in xs

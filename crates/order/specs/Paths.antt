@@ -1,4 +1,7 @@
--- Simple paths, their order, a path's rank and their number. A path is the list of its places. Assumes nothing.
+-- Simple paths (upstream's `is_simple_path`), their order, a path's rank and their number (docs/CARD-FILE.md, "Paths and their order"). A
+-- path is the list of its places. No search is spoken of here. A reader must believe this file (docs/MAP.md).
+-- Not here: what waits (Waiting.antt); how a program goes through them (Walk.antt); that the order is total (proofs/Order.antt) and that
+-- there is one listing (proofs/Tree.antt); upstream's words for a simple path (search/specs/Valid.antt).
 use mathlib.Core.Bool.{Bool, true}
 use mathlib.Core.List.{List, [], _∷_}
 use mathlib.Core.Logic.{_≢_, _⊎_}

@@ -1,4 +1,6 @@
--- The slots that the waiting paths of n certificates need. Assumes nothing.
+-- The slots that the waiting paths of n certificates need (docs/CARD-FILE.md, "Room"). A reader must believe this file (docs/MAP.md).
+-- Not here: that they are enough (`after-fits` of proofs/Bound.antt); the printed table (src/lib.rt); a slot's width
+-- (reply/specs/Slots.antt).
 use mathlib.Core.Bool.{cond, _&&_}
 use Prim.Native.Nat.{ℕ, _+_, _-_, _*_, _/_}
 use lib.Dec.{leb}

@@ -1,4 +1,7 @@
--- What waits after k steps. A step takes one path: after k steps the first k of the listing are taken. Assumes nothing.
+-- What waits after k steps (docs/CARD-FILE.md, "Paused"). A step takes one path: after k steps the first k of the listing are taken. A
+-- reader must believe this file (docs/MAP.md).
+-- Not here: that it exists and is only one (proofs/Waiting.antt); how many can wait at once (Slots.antt, `after-fits` of
+-- proofs/Bound.antt); where they stand in the lent room (reply/specs/Room.antt).
 use mathlib.Core.List.{List, [], _∷_, dropLast}
 use mathlib.Core.Logic.{_⊎_}
 use mathlib.Core.Path.{_≡_}

@@ -1,5 +1,6 @@
--- The simple paths as a program can follow them: a walk of the tree, and upstream's stack. A reader need not
--- believe this file: the theorems of proofs/ say that its paths and its stack are those of Paths and Waiting. Assumes nothing.
+-- The simple paths as a program can follow them: the places by which a path goes on, a walk of the tree, and upstream's stack. A reader
+-- need not believe this file: its walk is the listing of Paths.antt (`paths-listing` of proofs/Tree.antt), and its stack hands that out and
+-- holds what waits by Waiting.antt (`stack-taken`, `stack-after` of proofs/Waiting.antt).
 use mathlib.Core.Bool.{Bool, true, false, not, _&&_, _||_}
 use mathlib.Core.List.{List, [], _∷_, _++_, map, flatMap}
 use Prim.Native.Nat.{ℕ, zero, suc, _-_}

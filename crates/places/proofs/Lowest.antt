@@ -1,4 +1,5 @@
--- The lowest place that passes a test, in words: `seek-least`. Assumes nothing.
+-- The lowest place that passes a test, in words: `seek-least`. For the lowest place of a row (rows/proofs/Places.antt) and the lowest root
+-- of a path (reply/proofs/Least.antt). `seek` stands in specs/Lowest.antt.
 use Prim.Native.Nat.{ℕ, zero, suc, _+_, _≤_, _<_}
 use mathlib.Core.Bool.{Bool, true, false, cond}
 use mathlib.Core.Logic.{⊎-elim}

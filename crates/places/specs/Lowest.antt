@@ -1,4 +1,4 @@
--- The lowest place that passes a test. Assumes nothing.
+-- The lowest place that passes a test. In words: proofs/Lowest.antt; of the places of a row: `lowest` of rows/specs/Rows.antt.
 use mathlib.Core.Bool.{Bool, cond}
 use Prim.Native.Nat.{ℕ, zero, suc, _+_}
 

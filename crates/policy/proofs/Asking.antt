@@ -1,5 +1,6 @@
 -- A loop that judges those of a row, the lowest of the rest each turn: it begins with all of them left (`asking-starts`), a turn judges the
--- lowest (`asking-turn`), and it ends where the rest is past the places that there are (`asking-ends`). Assumes nothing.
+-- lowest (`asking-turn`), and it ends where the rest is past the places that there are (`asking-ends`). For the proof of `roots_above`; a
+-- loop that judges each place: Places.antt.
 use Prim.Native.Nat.{ℕ, _+_, _-_, _<_, _≤_}
 use mathlib.Core.Bool.{Bool, true, false, cond, not, _&&_, and-true, and-false, false≢true}
 use mathlib.Core.List.{List}

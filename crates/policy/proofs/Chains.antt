@@ -1,5 +1,6 @@
--- The policy by where a certificate stands: what a chain is asked rule by rule is what its leaf, each certificate between and its
--- root are asked. Assumes nothing.
+-- The policy by where a certificate stands: what a chain is asked rule by rule is what its leaf, each certificate between and its root are
+-- asked (`policy-by-seat`), for Seats.antt and Qualified.antt. The policy: specs/Policy.antt; what is asked by where one stands:
+-- specs/Sound.antt.
 use Prim.Native.Nat.{ℕ, _+_}
 use mathlib.Core.Path.{_≡_, refl, sym, ap, _∙_}
 use mathlib.Core.Bool.{Bool, true, false, _&&_}

@@ -1,6 +1,7 @@
 -- Filling the seats: each is put in the row of its limit (`entering-starts`, `entering-turn`, `entering-ends`), then each row is handed on
--- to the one before it (`handing-starts`, `handing-turn`, `handing-ends`); and the seats of both parts (`limited`, `seats-filled`); `second-lent`,
--- `second-back` for lending the second. Assumes nothing.
+-- to the one before it (`handing-starts`, `handing-turn`, `handing-ends`); and the seats of both parts (`limited`, `seats-filled`), with
+-- `second-lent` and `second-back` for lending the second. For src/seating.rt; what is promised: specs/Filling.antt; what the seats are good
+-- for: Qualifying.antt.
 use Prim.Native.Nat.{ℕ, _+_, _-_, _≤_, _<_, min}
 use mathlib.Core.Bool.{Bool, true, false, cond, not, _&&_, _||_, and-true, and-false, and-not-self, or-false, false≢true}
 use mathlib.Core.List.{List, [], _∷_, _++_}

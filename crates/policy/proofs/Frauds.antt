@@ -1,4 +1,5 @@
--- A fraud that no edit of an operand makes, key usage asked of the leaf: its answer does not satisfy the contract. Assumes nothing.
+-- A fraud that no edit of an operand makes, key usage asked of the leaf: its answer does not satisfy the contract, since such a leaf passes
+-- the policy (specs/Policy.antt). The others are edits in must-fail/; docs/FRAUDS.md lists them all.
 use Prim.Native.Nat.{ℕ}
 use mathlib.Core.Path.{_≡_, refl}
 use mathlib.Core.Bool.{true, false}

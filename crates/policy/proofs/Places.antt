@@ -1,6 +1,6 @@
 -- A loop that judges each place once: it begins with no place (`judging-starts`), and each turn puts a place's limit, and the place itself
 -- where it is sound (`judging-turn`); places that are not asked for are skipped (`judging-skips`); it ends with each place judged
--- (`judging-ends`). Assumes nothing.
+-- (`judging-ends`). For the proof of `places_between`, and for Asking.antt, which judges the roots.
 use Prim.Native.Nat.{ℕ, zero, suc, _+_, _<_, _≤_}
 use mathlib.Core.Bool.{Bool, true, false, cond}
 use mathlib.Core.List.{List}

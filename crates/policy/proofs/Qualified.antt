@@ -1,5 +1,6 @@
--- What is judged of a card is what the content says, at any time: who issued whom in the bundle (`issuer-judged`); a root by which a list of places
--- qualifies, as its certificates were judged, is one by which it qualifies (`root-judged`), and is there (`qualifies-there`). Assumes nothing.
+-- What is judged of a card is what the content says, at any time: who issued whom in the bundle (`issuer-judged`); a root by which a list
+-- of places qualifies, as its certificates were judged, is one by which it qualifies (`root-judged`), and is there (`qualifies-there`). For
+-- question/proofs/Meaning.antt. As judged: specs/Judging.antt; by the content: specs/Qualifies.antt.
 use Prim.Native.Nat.{ℕ, _<_, _≤_}
 use mathlib.Core.Path.{_≡_, refl, sym, ap, _∙_}
 use mathlib.Core.Bool.{Bool, true, false, _&&_, false≢true}

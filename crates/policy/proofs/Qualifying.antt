@@ -1,6 +1,6 @@
--- What the seats are good for. `roots-qualify`: the roots over a path are those by which it qualifies, as its certificates were judged, so that
--- a search that begins a standing and adds places to it applies the policy. `seats-pinned`: the contract of the seats names one array only.
--- What a path that was judged so says of the card's content is in Qualified. Assumes nothing.
+-- What the seats are good for. The roots over a path are those by which it qualifies, as its certificates were judged (`roots-qualify`), so
+-- that a search that begins a standing and adds places to it applies the policy. The contract of the seats names one array only
+-- (`seats-pinned`). What a path that was judged so says of the card's content is in Qualified.antt; one place more, in Adding.antt.
 use Prim.Native.Nat.{ℕ, _+_, _-_, _*_, _^_, _≤_, _<_}
 use mathlib.Core.Bool.{Bool, true, false, cond, _&&_, and-true, and-false, and-comm, and-assoc}
 use mathlib.Core.List.{List, [], _∷_}

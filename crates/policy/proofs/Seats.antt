@@ -1,5 +1,6 @@
--- What was judged once per certificate is what a chain's certificates are asked where they stand, on a card that was read:
--- those between (`all-stand-read`), the roots that were asked for (`top-read`), the leaf (`leaves-read`). Assumes nothing.
+-- What was judged once per certificate is what a chain's certificates are asked where they stand, on a card that was read: those between
+-- (`all-stand-read`), the roots that were asked for (`top-read`), the leaf (`leaves-read`). For Qualified.antt. What was judged:
+-- specs/Sound.antt; what they are asked where they stand: Chains.antt.
 use Prim.Native.Nat.{ℕ, _+_, _<_, _≤_}
 use mathlib.Core.Path.{_≡_, refl, sym, ap, ap₂, _∙_}
 use mathlib.Core.Bool.{Bool, true, cond, _&&_}

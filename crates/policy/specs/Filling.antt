@@ -1,4 +1,5 @@
--- What filling the seats promises (src/seating.rt), of the places or of the roots alike. Assumes nothing.
+-- What filling the seats promises (src/seating.rt), of the places or of the roots alike: that each of a row has a limit, that each is in
+-- the row of its limit, and the rows filled. What the seats are: `Seated` of Standing.antt.
 use Prim.Native.Nat.{ℕ, _≤_, _<_, min}
 use mathlib.Core.Bool.{false, _&&_}
 use mathlib.Core.List.{List}

@@ -1,5 +1,6 @@
 -- A path judged by the facts of its certificates: the first place is sound as the leaf, each one after it may stand where it does, and a
--- root that issued the last may stand above. Assumes nothing.
+-- root that issued the last may stand above. The facts themselves: Sound.antt; what a path is asked by its content: Qualifies.antt, and
+-- that it is the same: `root-judged` of proofs/Qualified.antt; place by place, as the search does it: Standing.antt.
 use Prim.Native.Nat.{ℕ, _+_}
 use mathlib.Core.Bool.{Bool, true, false, _&&_}
 use mathlib.Core.List.{List, [], _∷_}

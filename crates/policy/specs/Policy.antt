@@ -1,4 +1,7 @@
--- The policy on a chain (docs/CARD-FILE.md, "Policy"). Assumes nothing.
+-- The policy on a chain (docs/CARD-FILE.md, "Policy"; upstream leaves it open: docs/DIFFERENCES.md, D16): a chain and its parts; path
+-- lengths, counted up the chain (RFC 5280, 4.2.1.9); the seven rules, and whom each is asked of; then the chain of a card's path and root.
+-- A reader must believe this file (docs/MAP.md).
+-- Not here: what a rule asks of one certificate (rules/specs/Rules.antt); who issued whom (Qualifies.antt, order/specs/Paths.antt).
 use Prim.Native.Nat.{ℕ, _+_}
 use mathlib.Core.Bool.{Bool, true, _&&_}
 use mathlib.Core.List.{List, [], _∷_, _++_, map}

@@ -1,5 +1,7 @@
--- What is judged once per certificate: what the policy asks of it by where it stands in a chain, its path length aside, and its
--- limit; and all the facts of a card that a search asks (`judgedOf`). Assumes nothing.
+-- What is judged once per certificate: what the policy asks of it by where it stands in a chain, its path length aside, and its limit; and
+-- all the facts of a card that a search asks (`judgedOf`), which is the contract of `judge`.
+-- Not here: the policy on a chain (Policy.antt), and that it comes to this (`policy-by-seat` of proofs/Chains.antt, and proofs/Seats.antt);
+-- a path judged by these facts (Judging.antt).
 use Prim.Native.Nat.{ℕ}
 use mathlib.Core.Bool.{Bool, cond, _&&_}
 use mathlib.Core.List.{List}

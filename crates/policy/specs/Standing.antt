@@ -1,5 +1,6 @@
--- How a path stands under the policy, by the seats: begun for the leaf, and one place added at a time. The roots that it gives are those by
--- which the path qualifies (`roots-qualify` of proofs/Qualifying), so that a search needs to know no rule. Assumes nothing.
+-- How a path stands under the policy, by the seats: begun for the leaf, and one place added at a time; then the roots over a path. Those
+-- are the roots by which it qualifies (`roots-qualify` of proofs/Qualifying.antt), so that a search needs to know no rule. How the seats
+-- are filled: Filling.antt; what was judged: Sound.antt.
 use Prim.Native.Nat.{ℕ, _+_, _-_, _*_, _<_}
 use mathlib.Core.Bool.{cond, _&&_}
 use mathlib.Core.List.{List, [], _∷_}

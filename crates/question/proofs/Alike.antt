@@ -1,5 +1,6 @@
 -- Two alike certificates stay two: a path that goes on by one of them can go on by the other (`alike-paths`), and these are two paths, of
--- two ranks (`alike-ranks`). Assumes nothing.
+-- two ranks (`alike-ranks`). Two places that hold the same bytes have two records: card/proofs/Two.antt. A search that takes two for one:
+-- `merged` of search/proofs/Frauds.antt.
 use mathlib.Core.List.{List, [], _∷_, _++_}
 use mathlib.Core.Logic.{_↔_, _≢_}
 use mathlib.Core.Path.{_≡_, sym, ap, ap₂, _∙_}

@@ -1,5 +1,6 @@
 -- What a file's question asks is what its content asks (`put-asks`); where there is none, it is told why the file can't be read
--- (`stop-says`). Assumes nothing.
+-- (`stop-says`). For search/proofs/Asked.antt, which turns an answer to the question into one to the file. The question:
+-- specs/Question.antt; what a content asks: specs/Asked.antt.
 use mathlib.Core.List.{List}
 use mathlib.Core.Path.{_≡_, refl, sym, ap, _∙_}
 use Prim.Native.Nat.{ℕ}

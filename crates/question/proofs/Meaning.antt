@@ -1,5 +1,6 @@
 -- On a card that was read, the rows and judged places say what the content says: the same places (`places-read`), and for a simple path the
--- same roots (`qualifies-content`, `qualifies-rows`). Assumes nothing.
+-- same roots (`qualifies-content`, `qualifies-rows`). For Asked.antt. Who issued whom: issuing/proofs/Agrees.antt; who qualifies:
+-- policy/proofs/Qualified.antt.
 use mathlib.Core.Bool.{Bool, true, false, false≢true}
 use mathlib.Core.List.{List, _∷_}
 use mathlib.Core.Path.{_≡_, refl, sym, ap₂, _∙_, fun-ext}

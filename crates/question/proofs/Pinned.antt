@@ -1,4 +1,5 @@
--- No two questions of a file are told alike: what `pose` promises pins its answer down, a question and a fault alike. Assumes nothing.
+-- No two questions of a file are told alike (`posed-pins`): what `pose` promises pins its answer down, a question and a fault alike. What
+-- is told: specs/Question.antt.
 use Prim.Native.Nat.{ℕ}
 use mathlib.Core.Path.{_≡_, ap}
 use Rattle.fields.proofs.Pinned.{pins}

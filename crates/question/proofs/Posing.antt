@@ -1,4 +1,5 @@
--- What is told of a file whose reading is at hand: the question of its card (`posed-read`), or the fault (`posed-stopped`). Assumes nothing.
+-- What is told of a file whose reading is at hand: the question of its card (`posed-read`), or the fault (`posed-stopped`), for the proof
+-- of `pose`. What must be told: specs/Question.antt; what a reading is: card/specs/Answers.antt.
 use mathlib.Core.List.{List}
 use mathlib.Core.Path.{_≡_, refl, sym, ap, _∙_}
 use Prim.Native.Nat.{ℕ}

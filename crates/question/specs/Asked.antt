@@ -1,4 +1,7 @@
--- What a content asks: its places, and which roots a path reaches under the policy (docs/CARD-FILE.md, "The search"). Assumes nothing.
+-- What a content asks (docs/CARD-FILE.md, "The search"): its places, and which roots a path reaches under the policy. A reader must believe
+-- this file (docs/MAP.md).
+-- Not here: who issued whom (issuing/specs/Issued.antt); the policy (policy/specs/Qualifies.antt); what the code asks instead, by rows and
+-- judged places (Question.antt), and that it is the same (`put-asks` of proofs/Asked.antt).
 use lib.ListN.{length}
 use Rattle.card.specs.Content.{Content, bundled}
 use Rattle.issuing.specs.Issued.{issued}

@@ -1,4 +1,6 @@
--- What a file's question is, and what it asks of those who answer it. Assumes nothing.
+-- What a file's question is, and what it asks of those who answer it: of a card, of a file (the contract of `pose`), and its places and
+-- roots. What a content asks, which is what a reader must believe: Asked.antt; that the question asks the same: `put-asks` of
+-- proofs/Asked.antt. What is answered: reply/specs/Answer.antt.
 use mathlib.Core.List.{List}
 use Prim.Native.Nat.{ℕ}
 use lib.ListN.{getD}

@@ -1,5 +1,6 @@
--- The pairs of flags, by the test of a flag that is set without the one it needs, and what version and flags come to: a path length
--- without a CA (`no-ca`), one who may sign without a key usage (`no-key-usage`), and paired flags (`opens`). Assumes nothing.
+-- The pairs of flags, by the test of a flag that is set without the one it needs, and what version and flags come to: a path length without
+-- a CA (`no-ca`), one who may sign without a key usage (`no-key-usage`), and paired flags (`opens`). For the proof of `flags_at`; the
+-- pairs: `paired` of specs/Certificate.antt.
 use Prim.Native.Nat.{ℕ}
 use mathlib.Core.Path.{_≡_, refl}
 use mathlib.Core.List.{List}

@@ -1,4 +1,5 @@
--- The flags and a certificate are read from left to right. Assumes nothing.
+-- The flags and a certificate are read from left to right (`flags-forward`, `certificate-forward`), for card/proofs/Forward.antt. What that
+-- means: fields/proofs/Forward.antt.
 use Rattle.fields.proofs.Forward.{Forward, value, at-hand, judged, then}
 use Rattle.fields.proofs.ForwardFields.{byte-forward, string-forward, big-forward, optional-forward, counted-forward}
 use Rattle.names.proofs.Forward.{name-forward}

@@ -1,5 +1,6 @@
--- Of a record's head its flags alone say what stands behind it: what `record_at` and `flags` need. What stands behind a head comes to the
--- record (`behind-whole`), or to the first part that can't be read (`behind-strings`, `behind-names`, `behind-extensions`). Assumes nothing.
+-- Of a record's head its flags alone say what stands behind it (`record-behind`, `record-stops`): what `record_at` and `flags` need. What
+-- stands behind a head comes to the record (`behind-whole`), or to the first part that can't be read (`behind-strings`, `behind-names`,
+-- `behind-extensions`). The parts: specs/Record.antt.
 use Prim.Native.Nat.{ℕ}
 use mathlib.Core.Path.{_≡_, refl}
 use mathlib.Core.List.{List}

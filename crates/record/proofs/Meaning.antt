@@ -1,5 +1,6 @@
--- What a record that was read says: the limits of its parts, the names and lists that stand at its places, and the certificate.
--- One record of facts for each group of parts. Assumes nothing.
+-- What a record that was read says (`record-read`): the limits of its parts, the names and lists that stand at its places, and the
+-- certificate. One record of facts for each group of parts. For certificates, issuing and rules; that the certificate is what the file says
+-- there: Values.antt; where the parts stand: specs/Record.antt, what they make: specs/Parts.antt.
 use Prim.Native.Nat.{ℕ, _+_, _<_, _≤_}
 use mathlib.Core.Path.{_≡_, refl, sym, ap, _∙_}
 use mathlib.Core.Bool.{true}

@@ -1,5 +1,5 @@
--- Reading goes on: whatever is read ends past the place where it begins, or at it where a part may be missing; for each part of a
--- record. Assumes nothing.
+-- Reading goes on: whatever is read ends past the place where it begins, or at it where a part may be missing; for each part of a record.
+-- In order: any things, fields, names, the parts. For Meaning.antt, and for certificates/proofs/Two.antt, where it keeps two records apart.
 use Prim.Native.Nat.{ℕ, zero, suc, _+_, _≤_}
 use mathlib.Core.Path.{_≡_, refl}
 use mathlib.Core.Bool.{Bool, true, false, cond}

@@ -1,4 +1,4 @@
--- No two answers say the same: what `record_at` says pins its answer down. Assumes nothing.
+-- No two answers say the same: what `record_at` says pins its answer down (`recorded-pins`). What it says: specs/Answers.antt.
 use mathlib.Core.Path.{_≡_, refl, ap}
 use Rattle.fields.specs.Fields.{Parsed, got, stop}
 use Rattle.fields.proofs.Pinned.{pins, faultOf, fault-again}

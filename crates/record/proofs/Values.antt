@@ -1,5 +1,6 @@
--- What a record that was found says is what its certificate's reader reads there, with the same faults (`certificate-by-record`).
--- Assumes nothing.
+-- What a record that was found says is what its certificate's reader reads there, with the same faults (`certificate-by-record`), for
+-- card/proofs/Values.antt. The record: specs/Record.antt, and what it says: specs/Parts.antt; the certificate's reader:
+-- specs/Certificate.antt; its extensions: extensions/proofs/Values.antt.
 use Prim.Native.Nat.{ℕ, _+_, _≤_}
 use mathlib.Core.Path.{_≡_, sym, ap, _∙_}
 use mathlib.Core.List.{List}

@@ -1,4 +1,5 @@
--- What each case of an answer stands for: the values and the place past them, or the number of the fault. Assumes nothing.
+-- What each case of an answer stands for: the values and the place past them, or the number of the fault. The values are those of
+-- Record.antt; that no two answers of `record_at` say the same: proofs/Pinned.antt.
 use Prim.Native.Nat.{ℕ}
 use Rattle.fields.specs.Fields.{Parsed, got, stop}
 use Rattle.fields.specs.Answers.{number}

@@ -1,5 +1,7 @@
--- A certificate, and how a card file has it: its parts in their order, each with its limits, judged from left to right
--- (docs/CARD-FILE.md, "Record"). Assumes nothing.
+-- A certificate, and how a card file has it (docs/CARD-FILE.md, "Record"): its parts, the pairs of flags, and its reader, part by part with
+-- their limits, judged from left to right. A reader must believe this file (docs/MAP.md).
+-- Not here: what each flag says (extensions/specs/Flags.antt), usages and DNS names (lists/specs/Lists.antt), names
+-- (names/specs/Names.antt); where the parts stand in a file (Record.antt), and that both read the same (proofs/Values.antt).
 use Prim.Native.Nat.{ℕ}
 use mathlib.Core.Bool.{Bool, cond, _&&_, _||_, not}
 use mathlib.Core.List.{List}

@@ -1,4 +1,5 @@
--- What stands where nothing was read. Assumes nothing.
+-- What stands where nothing was read: of a record, and of each group of its parts. Of lists of records:
+-- certificates/specs/Certificates.antt; of a whole card: `fresh-card` of card/specs/Card.antt.
 use Rattle.fields.specs.Spans.{nowhere}
 use Rattle.lists.specs.declared.Run.{Run}
 use Rattle.extensions.specs.declared.KeyIds.{KeyIds}

@@ -1,5 +1,6 @@
--- What stands at a record's places over a file, whatever they are, and the certificate that it makes; nothing where it can't be
--- read. Assumes nothing.
+-- What stands at a record's places over a file, whatever they are, and the certificate that it makes; nothing where it can't be read. A
+-- certificate read by its values: Certificate.antt; that a record that was read makes the same: proofs/Values.antt; what stands there
+-- instead of nothing: Fresh.antt.
 use Prim.Native.Nat.{ℕ, _+_}
 use mathlib.Core.List.{List}
 use Rattle.fields.specs.Fields.{Parsed, got, stop, many}

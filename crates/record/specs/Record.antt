@@ -1,5 +1,7 @@
 -- Where a record's parts stand, for readers that copy nothing: in their order, each with its limits, judged from left to right. What is
--- found are numbers and the places of strings, names and lists. Assumes nothing.
+-- found are numbers and the places of strings, names and lists; a record keeps four of them.
+-- Not here: the certificate by its values (Certificate.antt); what the four places say (Parts.antt); the extensions
+-- (extensions/specs/Extensions.antt).
 use Prim.Native.Nat.{ℕ, _+_, _%_}
 use mathlib.Core.List.{List}
 use Rattle.fields.specs.Fields.{Parsed, got, after, byteP, bigP}

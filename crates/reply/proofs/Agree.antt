@@ -1,5 +1,6 @@
--- Two meanings of the roots that agree on every simple path: what settles the search by one settles it by the other, so that a caller
--- can put its own words for who qualifies. Assumes nothing.
+-- Two meanings of the roots that agree on every simple path: what settles the search by one settles it by the other (`settles-agree`,
+-- `paused-agree`, `searched-agree`), so that a caller can put its own words for who qualifies. For search/proofs/Asked.antt and
+-- steps/proofs/Judging.antt; what settles a search: specs/Settles.antt.
 use mathlib.Core.List.{List}
 use Prim.Native.Nat.{ℕ}
 use Rattle.order.specs.Paths.{Places, Simple}

@@ -1,4 +1,5 @@
--- Each search is settled: by reading the listing, path by path. Assumes nothing.
+-- Each search is settled (`settles`): by reading the listing, path by path (`found`). For Total.antt, and for the frauds of search, where
+-- it computes. What is settled after k paths: Settled.antt; that no second outcome settles it: Unique.antt.
 use mathlib.Core.Bool.{Bool, true, false, cond}
 use mathlib.Core.List.{List, [], _∷_, List·Memᴰ·not-nil}
 use mathlib.Core.Path.{_≡_, refl, sym, ap, _∙_}

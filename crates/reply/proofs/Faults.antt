@@ -1,4 +1,6 @@
--- What stands in the way of a search, by its tests, and what is answered then. Assumes nothing.
+-- What stands in the way of a search, by its tests (`case-empty`, `case-cramped`, `case-runs`, `clear`), and what is answered then
+-- (`stopped`, `answered-stops`, `answered-roomy`, `answered-over`). For the contracts of steps, search and report; the cases:
+-- specs/Answer.antt, their numbers: specs/Numbers.antt.
 use mathlib.Core.Bool.{Bool, true, false, cond, _&&_}
 use mathlib.Core.List.{List, []}
 use mathlib.Core.Logic.{_⊎_, inl, inr}

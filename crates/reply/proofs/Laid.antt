@@ -1,5 +1,6 @@
--- A room that is laid slot behind slot holds the paths as Room says (`laid-holding`), and only such a room does (`holding-laid`). A path
--- that waits fits in a slot (`stack-in-slots`). Assumes nothing.
+-- A room that is laid slot behind slot holds the paths as specs/Room.antt says (`laid-holding`), and only such a room does
+-- (`holding-laid`). A path that waits fits in a slot (`stack-in-slots`). For Total.antt, Unique.antt and steps; the room as it is laid:
+-- specs/Laid.antt; one path in its slot: Slots.antt.
 use mathlib.Core.Bool.{Bool, true, false}
 use mathlib.Core.List.{List, [], _∷_, _++_, append-assoc, List·Memᴰ·head as here, List·Memᴰ·tail as there}
 use mathlib.Core.Path.{_≡_, refl, sym, ap, ap₂, _∙_}

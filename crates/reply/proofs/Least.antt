@@ -1,4 +1,5 @@
--- The lowest root of a path: what it says of the path's roots. Assumes nothing.
+-- The lowest root of a path: what it says of the path's roots (`least-lowest`, `least-none`). For Exists.antt and steps/proofs/Least.antt;
+-- the lowest place that passes a test: places/proofs/Lowest.antt.
 use mathlib.Core.Bool.{false≢true}
 use mathlib.Core.List.{List}
 use mathlib.Core.Path.{sym, _∙_}

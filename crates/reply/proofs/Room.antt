@@ -1,4 +1,5 @@
--- Bytes written to a room, one after another: what loops that write slots or zeros have done after each turn. Assumes nothing.
+-- Bytes written to a room, one after another: what loops that write slots or zeros have done after each turn (`paste-more`, `paste-child`,
+-- `zeroed-more`). For the loops of steps and report. What a room must hold is in specs/Room.antt, and that a room holds it in Laid.antt.
 use mathlib.Core.Path.{_≡_, refl, sym, ap, _∙_}
 use mathlib.Core.List.{List, [], _∷_, _++_}
 use Prim.Native.Nat.{ℕ, zero, suc, _+_, _-_, _≤_, _<_, zero-le}

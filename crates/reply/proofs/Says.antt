@@ -1,4 +1,5 @@
--- An answer by its two parts: the reply and the path that an outcome, or an error, is answered with. Assumes nothing.
+-- An answer by its two parts: the reply and the path that an outcome (`by-parts`, `tells-reply`, `tells-path`), or an error (`stops-reply`,
+-- `stops-path`), is answered with. For the proofs of search, steps and report; `saying` and `shown` stand in specs/Numbers.antt.
 use Prim.Native.Nat.{ℕ}
 use mathlib.Core.Path.{_≡_, refl, sym, ap, ap₂, _∙_}
 use mathlib.Core.List.{List, []}

@@ -1,4 +1,5 @@
--- What is settled after k paths of the listing are taken, none of which qualifies. Assumes nothing.
+-- What is settled after k paths of the listing are taken, none of which qualifies: the next one is accepted, or all are refused, or the
+-- budget is exhausted (`accepts`, `refuses`, `exhausts`). For Exists.antt and steps/proofs/Ends.antt; the outcomes: specs/Settles.antt.
 use mathlib.Core.List.{List, [], List·Memᴰ·append-cases, List·Memᴰ·eq-of-singleton}
 use mathlib.Core.Logic.{⊎-elim}
 use mathlib.Core.Path.{_≡_, refl, _∙_}

@@ -1,4 +1,5 @@
--- A path as it is handed out, place by place. Assumes nothing.
+-- A path as it is handed out, place by place: `place-more`, `path-shown` for the loop of `Path::of`; `take-few` for the line of report.
+-- What is handed out: `pathShown` of specs/Answer.antt.
 use mathlib.Core.Bool.{Bool, true, false}
 use mathlib.Core.Path.{_≡_, refl, sym, ap, _∙_}
 use mathlib.Core.List.{List, [], _∷_, _++_, map}

@@ -1,4 +1,5 @@
--- Paths in their slots. Assumes nothing.
+-- Paths in their slots: one path and a place more (`length-slot`, `slot-child`), then the slots of a list of paths (`length-flat`,
+-- `flat-append`). For Laid.antt and steps; a slot: specs/Slots.antt, the slots of a list: specs/Laid.antt.
 use mathlib.Core.Path.{_≡_, refl, sym, ap, _∙_}
 use mathlib.Core.List.{List, [], _∷_, _++_, append-assoc, append-nil, List·Memᴰ·head as here, List·Memᴰ·tail as there}
 use Prim.Native.Nat.{ℕ, suc, _+_, _-_, _*_, _≤_, _<_}

@@ -1,5 +1,5 @@
 -- Every question has an answer: some answer and some room satisfy what `search` and `paused` promise (`search-some`, `paused-some`), of
--- whatever numbers. Assumes nothing.
+-- whatever numbers. Of a card file: search/proofs/One.antt. That no two do: Unique.antt; what is promised: specs/Answer.antt.
 use mathlib.Core.List.{List, [], List·Memᴰ·not-nil}
 use mathlib.Core.Path.{_≡_, refl}
 use Prim.Native.Nat.{ℕ, _≤_, _<_, zero-le}

@@ -1,5 +1,6 @@
 -- At most one outcome settles a search (`settles-unique`), a budget that covers all paths brings a yes or a no (`covers`), and what a
--- paused run and a search must answer and leave is one answer and one room (`paused-one`, `search-one`). Assumes nothing.
+-- paused run and a search must answer and leave is one answer and one room (`paused-one`, `search-one`). Of a card file:
+-- search/proofs/One.antt. That there is one: Exists.antt, Total.antt.
 use mathlib.Core.List.{List, []}
 use mathlib.Core.Logic.{⊎-elim}
 use mathlib.Core.Path.{_≡_, sym, ap, _∙_}

@@ -1,4 +1,7 @@
--- What is answered, and what is left in the room. Assumes nothing.
+-- What is answered, and what is left in the room (docs/CARD-FILE.md, "Replies"): an outcome's answer; what the paused run, the search and
+-- an error promise; then the cases of a search and the answer in each. A reader must believe this file (docs/MAP.md).
+-- Not here: when an outcome settles a search (Settles.antt); what the room holds (Room.antt); where 4 to 9 are given
+-- (fields/specs/Fields.antt, and the readers over it); that there is one answer (proofs/Unique.antt, proofs/Total.antt).
 use mathlib.Core.Bool.{cond}
 use mathlib.Core.List.{List, [], map}
 use mathlib.Core.Path.{_≡_}

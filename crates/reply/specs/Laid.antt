@@ -1,5 +1,5 @@
 -- A room as the code lays it, slot behind slot. A reader need not believe this file: proofs/Laid.antt says that a room is so laid exactly
--- where it holds the paths as Room says. Assumes nothing.
+-- where it holds the paths as Room.antt says. A path in its slot: Slots.antt.
 use mathlib.Core.List.{List, [], _∷_, _++_}
 use Prim.Native.Nat.{ℕ, _-_, _*_}
 use lib.ListN.{length, drop, replicate}

@@ -1,4 +1,5 @@
--- Cases and replies in numbers, as the code and C have them; the search's promise does not use them. Assumes nothing.
+-- Cases and replies in numbers, as the code and C have them; the search's promise does not use them. What is promised: Answer.antt; that an
+-- answer's two parts are an outcome's `saying` and `shown`: proofs/Says.antt.
 use Prim.Native.Nat.{ℕ}
 use mathlib.Core.List.{List, []}
 use Rattle.places.specs.declared.BundlePlace.{BundlePlace}

@@ -1,4 +1,7 @@
--- The lent room: how much is needed, and what it holds after the search. Assumes nothing.
+-- The lent room (docs/CARD-FILE.md, "Room" and "Paused"): when it is enough, a slot of it, and what it holds after the search. A reader
+-- must believe this file (docs/MAP.md).
+-- Not here: a path in its slot (Slots.antt); how many slots n certificates need (order/specs/Slots.antt); which paths wait
+-- (order/specs/Waiting.antt); the room as the code lays it (Laid.antt).
 use mathlib.Core.Bool.{Bool, _&&_}
 use mathlib.Core.List.{List, []}
 use mathlib.Core.Path.{_≡_}

@@ -1,5 +1,7 @@
--- What the search replies: the first path, in the order of paths, that reaches a root under the policy (docs/CARD-FILE.md, "The
--- search"). Assumes nothing.
+-- What the search replies (docs/CARD-FILE.md, "The search"): when a path qualifies by a root; when a search is accepted, refused or
+-- exhausted; then the outcomes and their steps. A reader must believe this file (docs/MAP.md).
+-- Not here: paths, their order and rank (order/specs/Paths.antt); which roots a file's paths reach (question/specs/Asked.antt); that one
+-- outcome settles each search (`settles` of proofs/Exists.antt, `settles-unique` of proofs/Unique.antt).
 use mathlib.Core.Bool.{Bool, true}
 use mathlib.Core.List.{List}
 use mathlib.Core.Path.{_≡_}

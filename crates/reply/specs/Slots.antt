@@ -1,4 +1,5 @@
--- Paths in slots: a length, then as many places as a path can have. Assumes nothing.
+-- A path in its slot (docs/CARD-FILE.md, "Room"): its length, its places, zeros. A reader must believe this file (docs/MAP.md).
+-- Not here: how many slots are needed (order/specs/Slots.antt), and which path stands in which (Room.antt).
 use Prim.Native.Nat.{ℕ, _+_, _-_}
 use mathlib.Core.List.{List, _∷_, _++_}
 use lib.ListN.{length, replicate}

@@ -1,4 +1,5 @@
--- A number in decimal: its digits one by one, how many there are, and that `io::decimal` writes them. Assumes nothing.
+-- A number in decimal: how many digits there are (`decimal-u8`, `decimal-u64`), and that `io::decimal` writes them (`fewest-decimal`). For
+-- the proofs of the line's functions; decimals: specs/Text.antt.
 use mathlib.Core.Bool.{Bool, true, false, cond}
 use mathlib.Core.List.{List, [], _∷_, _++_}
 use mathlib.Core.Path.{_≡_, refl, ap, sym}

@@ -1,4 +1,4 @@
--- A line under way grows at its end. Assumes nothing.
+-- A line under way grows at its end (`grown`), for the proof of `Line::with`. A line as it is handed out: `lineShown` of specs/Lines.antt.
 use mathlib.Core.List.{List, _++_}
 use mathlib.Core.Path.{_≡_, ap, ap₂, sym, _∙_}
 use Prim.Native.Nat.{ℕ, _+_, _-_, _≤_}

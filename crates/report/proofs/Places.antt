@@ -1,4 +1,5 @@
--- A path's places behind a line, one by one. Assumes nothing.
+-- A path's places behind a line, one by one (`place-behind`), for the loop of `with_places`. How places are written: `spaced` of
+-- specs/Lines.antt.
 use mathlib.Core.List.{List, [], _∷_, _++_, map, append-nil, append-assoc, map-append}
 use mathlib.Core.Path.{_≡_, ap, sym, _∙_}
 use Prim.Native.Nat.{ℕ, _+_, _<_}

@@ -1,4 +1,5 @@
--- The line for each case of a reply. Assumes nothing.
+-- The line for each case of a reply: `line-accepted`, `line-refused`, `line-exhausted`, `line-error`, for the proof of `line_of`. The
+-- words: specs/Lines.antt; what a line tells of a search: Told.antt.
 use mathlib.Core.List.{_++_}
 use mathlib.Core.Path.{_≡_}
 use Prim.Native.Nat.{ℕ}

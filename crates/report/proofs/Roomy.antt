@@ -1,5 +1,5 @@
--- The room is always enough, so reply 10 is never given in it (`never-ten`), and one line replies to a file (`one-line`).
--- Assumes nothing.
+-- The room is always enough, so reply 10 is never given in it (`never-ten`), and one line replies to a file (`one-line`); a line's length
+-- counts its bytes (`shown-counts`). For the proof of `reply_to`; what replies to a file: specs/Replying.antt.
 use mathlib.Core.Bool.{true}
 use mathlib.Core.List.{List, _++_}
 use mathlib.Core.Logic.{⊎-elim}

@@ -1,5 +1,5 @@
 -- What a line shows: the outcome of the search, its path place by place (`line-tells`), or why there is no search (`line-stops`); and the
--- card-file paper's own lines. Assumes nothing.
+-- card-file paper's own lines. Nothing rests on it: it is for a reader of the line. The line by the code's cases: Replies.antt.
 use mathlib.Core.List.{List, [], _∷_, _++_, map, map-append}
 use mathlib.Core.Path.{_≡_, refl, ap, _∙_}
 use Prim.Native.Nat.{ℕ, _-_}

@@ -1,4 +1,5 @@
--- The line that is written for an answer (docs/CARD-FILE.md, "Replies"). Assumes nothing.
+-- The line that is written for an answer (docs/CARD-FILE.md, "The program's line"): its words, then a line as it is handed out, and how
+-- long it can be. Words and numbers as bytes: Text.antt; which answer a card file gets: Replying.antt.
 use mathlib.Core.List.{List, [], _∷_, _++_, map}
 use Prim.Native.Nat.{ℕ, _+_, _-_, _*_}
 use lib.ListN.{length, take, replicate}

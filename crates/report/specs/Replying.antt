@@ -1,4 +1,6 @@
--- What is written for a card file. Assumes nothing.
+-- What is written for a card file: the line for what the search answers in a room that is always enough, which is the contract of
+-- `reply_to`. The line for an answer: Lines.antt; the search: search/specs/Search.antt; that one line replies to a file: `one-line` of
+-- proofs/Roomy.antt.
 use mathlib.Core.List.{List}
 use mathlib.Core.Path.{_≡_}
 use Prim.Native.Nat.{ℕ, _*_}

@@ -1,5 +1,6 @@
--- A loop that puts a number at each place: it begins with zeros (`listing-none`), each turn puts one more (`listing-next`), or nothing where
--- that is 0 (`listing-kept`), and what stands at a place is what was put there (`listing-at`). Zeros alone: `getD-zeros`. Assumes nothing.
+-- A loop that puts a number at each place: it begins with zeros (`listing-none`), each turn puts one more (`listing-next`), or nothing
+-- where that is 0 (`listing-kept`), and what stands at a place is what was put there (`listing-at`). Zeros alone: `getD-zeros`. For the
+-- loops of issuing and policy; the sets themselves: Places.antt.
 use Prim.Native.Nat.{ℕ, zero, suc, _+_, _-_, _<_, _≤_}
 use mathlib.Core.Path.{_≡_, refl, sym, ap, _∙_}
 use mathlib.Core.Bool.{Bool, true, false, cond}

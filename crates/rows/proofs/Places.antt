@@ -1,9 +1,7 @@
--- What the places of a row are, for those who keep sets in rows.
--- One place: `has-at`, `has-past`, `joined-at`, `joined-past` by its number, then `has-none`, `has-joined`, `has-left`, `has-common`, `has-either` for what makes a row.
--- The row of a test: `has-row`; `row-none`, `row-more`, `row-kept` for a loop.
--- The lowest place: `lowest-least`. A row without one of its places: `has-dropped`. A loop over a row's places is in Taking, the
--- highest place in Upper; that a row is no more than its places, in Same.
--- What the code's words say of a row is in Words. Assumes nothing.
+-- What the places of a row are, for those who keep sets in rows: one place (`has-at`, `has-past`, `joined-at`, `joined-past`) and what
+-- makes a row (`has-none`, `has-joined`, `has-left`, `has-common`, `has-either`); the row of a test (`has-row`; `row-none`, `row-more`,
+-- `row-kept`); the lowest place (`lowest-least`); a place dropped (`has-dropped`).
+-- Not here: a loop over the places (Taking.antt); the highest one (Upper.antt); equal rows (Same.antt); the code's words (Words.antt).
 use Prim.Native.Nat.{ℕ, zero, suc, _+_, _/_, _%_, _^_, _≤_, _<_}
 use mathlib.Core.Bool.{Bool, true, false, cond, not, _&&_, _||_, false≢true}
 use mathlib.Core.Path.{_≡_, refl, sym, ap, _∙_}

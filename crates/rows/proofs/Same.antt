@@ -1,4 +1,5 @@
--- `row-same`: a row is no more than its places. It is for a contract that says which places a row has: no other row meets it. Assumes nothing.
+-- `row-same`: a row is no more than its places. It is for a contract that says which places a row has: no other row meets it, as
+-- policy/proofs/Qualifying.antt says of the seats. The places of a row: Places.antt.
 use Prim.Native.Nat.{ℕ, zero, suc, _+_, _*_, _/_, _%_, _^_, _<_}
 use mathlib.Core.Bool.{false≢true}
 use mathlib.Core.Path.{_≡_, refl, sym, ap, _∙_}

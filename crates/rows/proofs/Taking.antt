@@ -1,5 +1,5 @@
 -- A loop that takes the lowest place of a row out each turn: that place stands in the row (`lowest-there`), and what is left begins later
--- (`lowest-grows`). Assumes nothing.
+-- (`lowest-grows`). For the loops of policy; the lowest place, and a row without one of its places: Places.antt.
 use Prim.Native.Nat.{ℕ, _≤_, _<_}
 use mathlib.Core.Bool.{Bool, true, false, not, _&&_, and-false, false≢true}
 use mathlib.Core.Path.{_≡_, refl, sym, ap, _∙_}

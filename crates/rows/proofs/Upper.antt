@@ -1,6 +1,6 @@
 -- The highest place of a row, and the row of the places below a number.
--- `highest-has`, `highest-above`: what the highest place says of a row; `highest-place`: a row that is not 0 has one; `has-below`.
--- What the code's words say of them: `highest-zero`, `highest-zeros`, `below-some`, `below-all`. Assumes nothing.
+-- `highest-has`, `highest-above`: what the highest place says of a row; `highest-place`: a row that is not 0 has one; `has-below`. What the
+-- code's words say of them: `highest-zero`, `highest-zeros`, `below-some`, `below-all`. The lowest place is in Places.antt.
 use Prim.Native.Nat.{ℕ, zero, suc, _+_, _-_, _*_, _/_, _%_, _^_, _≤_, _<_}
 use mathlib.Core.Bool.{Bool, true, false, cond, _&&_, false≢true}
 use mathlib.Core.Logic.{_⊎_, inl, inr, ⊎-elim}

@@ -1,4 +1,5 @@
--- What the code's shift, mask and count of zeros say of a row. Assumes nothing.
+-- What the code's shift, mask and count of zeros say of a row: for `has` (`has-masked`), `with` (`joined-shifted`) and `lowest`
+-- (`lowest-zeros`). Those of `highest` and `below` are in Upper.antt; what a row's places are, in Places.antt.
 use Prim.Native.Nat.{ℕ, zero, suc, _+_, _*_, _/_, _%_, _^_, _≤_, _<_}
 use mathlib.Core.Bool.{cond, not}
 use mathlib.Core.Path.{_≡_, refl, sym, ap, _∙_}

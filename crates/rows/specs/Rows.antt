@@ -1,4 +1,6 @@
--- A set of places as the bits of a number. Assumes nothing.
+-- A set of places as the bits of a number: one place, what makes a row of two, its lowest and highest place, the row of a test; then a
+-- number for each place. The laws: proofs/Places.antt (membership), proofs/Upper.antt (the highest place), proofs/Listing.antt (the
+-- numbers), proofs/Words.antt (the code's shifts and masks).
 use Prim.Native.Nat.{ℕ, zero, suc, _-_, _/_, _%_, _^_}
 use mathlib.Core.Bool.{Bool, cond, _&&_}
 use mathlib.Core.List.{List, [], _∷_, _++_}

@@ -1,6 +1,6 @@
--- One of the things in a row passes a test, for any things and any test. A loop over the run: a turn that goes on (`any-next`), one
--- that finds a thing that passes (`any-found`), one that stops (`any-stops`), and its end (`any-ends`). And the run as a list that was
--- read (`any-read`). Assumes nothing.
+-- One of the things in a row passes a test, for any things and any test. A loop over the run: a turn that goes on (`any-next`), one that
+-- finds a thing that passes (`any-found`), one that stops (`any-stops`), and its end (`any-ends`). And the run as a list that was read
+-- (`any-read`), for LeafRead.antt. What is asked of a run: `anyOf` of specs/Records.antt.
 use Prim.Native.Nat.{ℕ, zero, suc, _-_, _<_, _≤_}
 use mathlib.Core.Path.{_≡_, refl, sym, ap, _∙_}
 use mathlib.Core.Bool.{Bool, true, false, _||_}

@@ -1,4 +1,5 @@
--- Frauds that no edit of an operand makes: their answers do not satisfy the contract. Assumes nothing.
+-- Frauds that no edit of an operand makes: their answers do not satisfy the contract of `for_host`. The others are edits in must-fail/;
+-- docs/FRAUDS.md lists them all.
 use mathlib.Core.Path.{_≡_}
 use mathlib.Core.Bool.{false, false≢true}
 use mathlib.Core.List.{[], _∷_}

@@ -1,5 +1,6 @@
--- What is asked of the leaf by the runs of its record is what is asked of the certificate, where the record stands in the file:
--- usages (`for-servers-read`) and the host (`for-host-read`). Assumes nothing.
+-- What is asked of the leaf by the runs of its record is what is asked of the certificate, where the record stands in the file: usages
+-- (`for-servers-read`) and the host (`for-host-read`). For policy/proofs/Seats.antt. By runs: specs/Records.antt; of the certificate:
+-- specs/Rules.antt.
 use Prim.Native.Nat.{ℕ}
 use mathlib.Core.Path.{_≡_}
 use mathlib.Core.List.{List}

@@ -1,6 +1,6 @@
--- A certificate's limit: its path length where it has one (`limit-given`), and else none (`no-limit`). A path length is a byte
--- (`path-length-byte`). Of as many certificates as a path can have the limit says what the path length allows (`limit-allows`).
--- Assumes nothing.
+-- A certificate's limit: its path length where it has one (`limit-given`), and else none (`no-limit`), for the proof of `limit`. A path
+-- length is a byte (`path-length-byte`). Of as many certificates as a path can have the limit says what the path length allows
+-- (`limit-allows`, for policy/proofs/Seats.antt). The limit: specs/Limits.antt; the rule: specs/Rules.antt.
 use Prim.Native.Nat.{ℕ, _≤_}
 use mathlib.Core.Path.{_≡_, refl}
 use mathlib.Core.Bool.{true, false}

@@ -1,4 +1,5 @@
--- The path-length rule as one number for each certificate; the law `limit-allows` says that it comes to the rule. Assumes nothing.
+-- The path-length rule as one number for each certificate, which is what `limit` answers. The rule itself is `allows` of Rules.antt; that
+-- the number comes to it: `limit-allows` of proofs/Limits.antt.
 use Prim.Native.Nat.{ℕ}
 use mathlib.Core.Option.{Option, none, some}
 use Rattle.record.specs.Certificate.{Certificate}

@@ -1,5 +1,5 @@
--- What Rules asks of the leaf's usages and DNS names, asked of a record's runs as they are, whether a reader made them or not. Assumes
--- nothing.
+-- What Rules.antt asks of the leaf's usages and DNS names, asked of a record's runs as they are, whether a reader made them or not. That it
+-- is the same of a record that was read: proofs/LeafRead.antt.
 use Prim.Native.Nat.{ℕ, zero, suc}
 use mathlib.Core.Bool.{Bool, false, _||_}
 use mathlib.Core.List.{List}

@@ -1,4 +1,7 @@
--- What is asked of one certificate (docs/CARD-FILE.md, "Policy"). Assumes nothing.
+-- What is asked of one certificate, in the order of docs/CARD-FILE.md, "Policy". In RFC 5280: dates 4.1.2.5, critical extensions 4.2, CA
+-- and path length 4.2.1.9, key usage 4.2.1.3, usages 4.2.1.12. A reader must believe this file (docs/MAP.md).
+-- Not here: which certificates of a chain each is asked of (policy/specs/Policy.antt); how a pattern matches (text/specs/Wildcard.antt);
+-- the leaf's rules over a record (Records.antt); the path length as one number (Limits.antt).
 use Prim.Native.Nat.{ℕ}
 use mathlib.Core.Bool.{Bool, true, not, _&&_, _||_}
 use mathlib.Core.List.{List, map}

@@ -1,5 +1,6 @@
--- Two attributes compared in the code's order: OIDs, then values as they stand, then their normal forms where the flag asks for them.
--- Assumes nothing.
+-- Two attributes compared in the code's order: OIDs (`oids-differ`), then values as they stand (`values-equal`, `values-differ`), then
+-- their normal forms where the flag asks for them (`forms-compared`). For the proof of `same_attribute`; when they are the same: `sameAttr`
+-- of specs/Same.antt.
 use Prim.Native.Nat.{ℕ}
 use mathlib.Core.Path.{_≡_, sym}
 use mathlib.Core.Bool.{Bool, true, false, cond}

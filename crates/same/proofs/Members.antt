@@ -1,5 +1,6 @@
--- An attribute looked for among those that stand in a row: found at the first, not at the first, or nothing is left to look at.
--- Assumes nothing.
+-- An attribute looked for among those that stand in a row: found at the first (`has-here`), not at the first (`has-further`), or nothing is
+-- left to look at (`has-stopped`, `has-none`). For the loops of src/matching.rt; what looking comes to: specs/Rows.antt; the row itself:
+-- Standing.antt.
 use Prim.Native.Nat.{ℕ, _-_, _<_, _≤_}
 use mathlib.Core.Path.{_≡_, refl}
 use mathlib.Core.Bool.{Bool, true, false, cond}

@@ -1,4 +1,4 @@
--- No two answers say the same: what a relation of two names says pins its answer down. Assumes nothing.
+-- No two answers say the same: what a relation of two names says pins its answer down (`said-pins`). What it says: specs/Answers.antt.
 use Prim.Native.Nat.{ℕ}
 use mathlib.Core.Path.{_≡_, refl}
 use mathlib.Core.Bool.{cond}

@@ -1,5 +1,5 @@
--- Rows with their counts before them: what a row that was read holds (`row-read`, of an RDN `rdn-row`), and whether what stands in two
--- of them is related (`standing-judged`). Assumes nothing.
+-- Rows with their counts before them: what a row that was read holds (`row-read`, of an RDN `rdn-row`), and whether what stands in two of
+-- them is related (`standing-judged`). For `matched_walk` and subtree; a row up to the first thing that can't be read: Standing.antt.
 use Prim.Native.Nat.{ℕ}
 use mathlib.Core.Path.{_≡_, refl, sym, ap, _∙_}
 use mathlib.Core.Bool.{Bool, cond}

@@ -1,4 +1,6 @@
--- Two names that were read are the same by their bytes or by their parts exactly where they are the same. Assumes nothing.
+-- Two names that were read are the same by their bytes or by their parts exactly where they are the same (`spans-read`, for
+-- issuing/proofs/Agrees.antt); `bytes-same` and `bytes-differ` are the answers of `same_names`. By bytes or parts: `sameNames` of
+-- specs/Answers.antt; that the same bytes are the same name: names/proofs/Alike.antt.
 use Prim.Native.Nat.{ℕ, _≤_}
 use mathlib.Core.Path.{_≡_, refl, sym, ap, _∙_}
 use mathlib.Core.Bool.{Bool, true, false, _||_}

@@ -1,5 +1,5 @@
--- Things in a row up to the first that can't be read: a loop that counts down, and a row that was read through.
--- Assumes nothing.
+-- Things in a row up to the first that can't be read: a loop that counts down (`standing-none`, `standing-some`), and a row that was read
+-- through (`standing-whole`). For Members.antt and Rows.antt; `standing` is in specs/Rows.antt.
 use Prim.Native.Nat.{ℕ, zero, suc, _-_, _<_, _≤_}
 use mathlib.Core.Path.{_≡_, refl, sym}
 use mathlib.Core.List.{List, []}

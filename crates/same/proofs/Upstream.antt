@@ -1,5 +1,6 @@
--- Verdict's clauses of its relations on names, given by our definitions: `same_attr` with the flag set (`same-attr-upstream`), and
--- its `forall` at each place of the first of two rows (`places-each`). Assumes nothing.
+-- Verdict's clauses of its relations on names, given by our definitions (specs/Same.antt): `same_attr` with the flag set
+-- (`same-attr-upstream`), and its `forall` at each place of the first of two rows (`places-each`). Its quantifiers over one row are in
+-- subtree/proofs/Upstream.antt.
 use Prim.Native.Nat.{ℕ, _<_, _≤_}
 use mathlib.Core.Path.{_≡_, refl}
 use mathlib.Core.Bool.{Bool, true, false, _&&_, _||_, false≢true}

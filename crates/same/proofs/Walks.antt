@@ -1,6 +1,6 @@
--- Two things walked side by side: whether the walk came through (`walk-both`), a loop that counts two rows down (`walk-none`,
--- `walk-on`, `walk-differs`), rows with their counts before them (`counted-passes`, `counted-fails`, `counted-same`, and where a count
--- can't be read), each for any element, relation, test of the lengths and reader. Assumes nothing.
+-- Two things walked side by side: whether the walk came through (`walk-both`), a loop that counts two rows down (`walk-none`, `walk-on`,
+-- `walk-differs`), rows with their counts before them (`counted-passes`, `counted-fails`, `counted-same`, and where a count can't be read),
+-- each for any element, relation, test of the lengths and reader. For src/walk.rt and subtree; a walk: specs/Walks.antt.
 use Prim.Native.Nat.{ℕ, zero, suc, _-_, _<_, _≤_}
 use mathlib.Core.Path.{_≡_, refl, sym, _∙_}
 use mathlib.Core.Bool.{Bool, true, false, cond, _&&_}

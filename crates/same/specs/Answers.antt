@@ -1,4 +1,5 @@
--- What each answer stands for, and what a relation of two encoded arguments answers. Assumes nothing.
+-- What each answer stands for, and what a relation of two encoded arguments answers; then two names by where they stand. The relations
+-- themselves: Same.antt, Matching.antt, subtree/specs/Subtree.antt; that no two answers say the same: proofs/Pinned.antt.
 use Prim.Native.Nat.{ℕ}
 use mathlib.Core.Bool.{Bool, false, cond, _||_}
 use mathlib.Core.List.{List}

@@ -1,4 +1,5 @@
--- An RDN looked through for the attributes of another, wherever they stand. Assumes nothing.
+-- An RDN looked through for the attributes of another, wherever they stand (docs/CARD-FILE.md, "Names related", "RDN has name"). Place by
+-- place: Same.antt. Subtrees, which are made of this: subtree/specs/Subtree.antt.
 use mathlib.Core.Bool.{Bool}
 use mathlib.Core.List.{List}
 use Rattle.text.specs.Each.{any, all}

@@ -1,5 +1,5 @@
--- What looking for an attribute in an RDN comes to, each read where it stands. No contract of a published function cites this page.
--- Assumes nothing.
+-- What looking for an attribute in an RDN comes to, each read where it stands: for the functions of src/matching.rt. No contract of a
+-- published function cites this page; of RDNs that were read it is `rdnHasName` of Matching.antt.
 use Prim.Native.Nat.{ℕ, zero, suc}
 use mathlib.Core.Bool.{Bool, false}
 use mathlib.Core.List.{List, [], _∷_}

@@ -1,5 +1,7 @@
--- When two attributes, RDNs or names are the same, each by the flag that says whether values are compared in normal form.
--- Assumes nothing.
+-- When two attributes, RDNs or names are the same (docs/CARD-FILE.md, "Names related"; upstream's `same_attr`, `same_rdn`, `same_dn`; RFC
+-- 5280, 7.1, but with the order in an RDN: docs/DIFFERENCES.md, F2). A flag says whether values are compared in normal form. A reader must
+-- believe this file (docs/MAP.md).
+-- Not here: the normal form (text/specs/Normal.antt); attributes in any order (Matching.antt); subtrees (subtree/specs/Subtree.antt).
 use mathlib.Core.Bool.{Bool, true, false, cond, _&&_}
 use mathlib.Core.List.{List, [], _∷_}
 use lib.ListN.{length}

@@ -1,4 +1,5 @@
--- What a walk of two things side by side answers. Assumes nothing.
+-- What a walk of two things side by side answers: where both end, or that they differ. Which relation is walked: Same.antt; the laws of
+-- walks: proofs/Walks.antt.
 use mathlib.Core.Bool.{Bool, cond}
 use Rattle.fields.specs.Fields.{Parsed, got, stop}
 use Rattle.same.specs.declared.walk.Walk.{Walk}

@@ -1,5 +1,6 @@
 -- From what a file asks to what it is answered, at whatever time: an answer to the file's question is one to its content (`searched`,
--- `held-paused`). Assumes nothing.
+-- `held-paused`), for the proofs of `search` and `paused`. That the question asks what the content asks: question/proofs/Asked.antt; what
+-- is promised: specs/Search.antt.
 use mathlib.Core.List.{List}
 use mathlib.Core.Path.{_≡_, ap}
 use Prim.Native.Nat.{ℕ}

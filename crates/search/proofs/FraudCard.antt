@@ -1,6 +1,6 @@
 -- A card of three certificates that all issue each other, as content and as a file, and what a search over it comes to. There are five
--- simple paths, [0], [0,2], [0,2,1], [0,1] and [0,1,2]; by which places the roots signed, the first, the second or none of them is accepted.
--- Assumes nothing.
+-- simple paths, [0], [0,2], [0,2,1], [0,1] and [0,1,2]; by which places the roots signed, the first, the second or none of them is
+-- accepted. The frauds that it refutes: Frauds.antt.
 use Prim.Native.Nat.{ℕ}
 use mathlib.Core.Path.{_≡_, refl}
 use mathlib.Core.List.{List, [], _∷_, _++_, flatMap}

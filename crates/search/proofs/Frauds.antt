@@ -1,5 +1,5 @@
 -- Frauds of the search, each on a card and in every room that is enough for it: the fraud's answer is not what `search` or `paused`
--- promises. Assumes nothing.
+-- promises. The card: FraudCard.antt. The others are edits in must-fail/; docs/FRAUDS.md lists them all.
 use Prim.Native.Nat.{ℕ, _<_}
 use mathlib.Core.Bool.{true}
 use mathlib.Core.List.{List, [], _∷_}

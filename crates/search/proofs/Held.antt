@@ -1,5 +1,6 @@
 -- What the paused run leaves is pinned for every k: the paths that wait after the steps it tells (`waiting-pinned`), never more than the
--- table's slots (`waiting-few`). Assumes nothing.
+-- table's slots (`waiting-few`). What is promised: `Pause` of specs/Search.antt; what waits: order/specs/Waiting.antt; that answer and room
+-- are one: One.antt.
 use mathlib.Core.List.{List}
 use mathlib.Core.Path.{_≡_, refl}
 use Prim.Native.Nat.{ℕ, _≤_}

@@ -1,5 +1,6 @@
 -- Every list of bytes, budget and room is answered in exactly one way: no two answers or final rooms satisfy what `search` and `paused`
--- promise (`search-one`, `pause-one`), and some do (`search-some`, `pause-some`). Assumes nothing.
+-- promise (`search-one`, `pause-one`), and some do (`search-some`, `pause-some`). For report and desk. The same of any question:
+-- reply/proofs/Unique.antt, reply/proofs/Total.antt.
 use mathlib.Core.List.{List}
 use Prim.Native.Nat.{ℕ}
 use lib.ListN.{length}

@@ -1,5 +1,6 @@
 -- With budget enough a file is accepted exactly when upstream's `valid` holds of its content (`accepted-valid`); a budget that covers all
--- paths always brings a yes or a no (`yes-or-no`). Assumes nothing.
+-- paths always brings a yes or a no (`yes-or-no`). On the way: a path is simple in upstream's words exactly when it is in ours
+-- (`to-upstream`, `from-upstream`). Upstream's words: specs/Valid.antt; ours: order/specs/Paths.antt.
 use mathlib.Core.Bool.{Bool, true, false, _&&_, false≢true}
 use mathlib.Core.List.{List, [], _∷_, List·Memᴰ·head as here, List·Memᴰ·tail as there}
 use mathlib.Core.Logic.{_≢_, _⊎_, inl, inr, _↔_}

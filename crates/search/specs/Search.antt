@@ -1,4 +1,7 @@
--- What is answered to a card file (docs/CARD-FILE.md, "The search" and "Replies"). Assumes nothing.
+-- What is answered to a card file (docs/CARD-FILE.md, "The search" and "Replies"): the case of a file, then the two contracts, `Search` and
+-- `Pause`. It is the top of what a reader must believe (docs/MAP.md).
+-- Not here: what a file says (card/specs/Content.antt), the answer in each case (reply/specs/Answer.antt), which roots a path reaches
+-- (question/specs/Asked.antt); that each file has one answer (proofs/One.antt); upstream's `valid` (Valid.antt).
 use mathlib.Core.List.{List}
 use Prim.Native.Nat.{ℕ}
 use lib.ListN.{length}

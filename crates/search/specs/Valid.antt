@@ -1,5 +1,6 @@
 -- Upstream's top-level specification, `Query::valid` (validator.rs), over a file's content and in its own words, for the theorem that a
--- search with budget enough accepts exactly when it holds. The search's promise does not use it. Assumes nothing.
+-- search with budget enough accepts exactly when it holds (`accepted-valid` of proofs/Valid.antt). The search's promise does not use it:
+-- that is Search.antt.
 use mathlib.Core.Bool.{true}
 use mathlib.Core.List.{List, [], _∷_}
 use mathlib.Core.Logic.{_≢_}

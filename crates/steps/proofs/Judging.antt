@@ -1,5 +1,6 @@
 -- The roots by how a path stands are those by what was judged of its certificates, so that the walk by the one settles the search by the
--- other (`settled`). Assumes nothing.
+-- other (`settled`, for the proof of `run`). How a path stands: policy/specs/Standing.antt; that it is the same:
+-- policy/proofs/Qualifying.antt.
 use mathlib.Core.Bool.{Bool, true, false, _&&_, false≢true}
 use mathlib.Core.List.{List, [], _∷_}
 use mathlib.Core.Path.{_≡_, refl, sym, _∙_}

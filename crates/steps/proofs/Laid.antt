@@ -1,4 +1,6 @@
--- The rows of a walk as paths in the slots, depth by depth. Assumes nothing.
+-- The rows of a walk as paths in the slots, depth by depth: one path's slot, one row (`offered-yes`, `offered-no`, `child-room`), the
+-- depths (`lying-none`, `lying-more`, `lying-cleared`). For the loops of src/lay.rt; what waits by depths: specs/Parts.antt; what the room
+-- must hold: reply/specs/Laid.antt; a slot read back: Stack.antt.
 use mathlib.Core.Bool.{Bool, true, false}
 use mathlib.Core.List.{List, [], _∷_, _++_, map, append-assoc, Memᴰ·of-map, List·Memᴰ·append-cases, List·Memᴰ·not-nil}
 use mathlib.Core.Logic.{⊎-elim}

@@ -1,4 +1,5 @@
--- The lowest root of a path is the lowest place of its row of roots. Assumes nothing.
+-- The lowest root of a path is the lowest place of its row of roots (`row-found`), and an empty row is no root (`row-none`). For the proof
+-- of `walk`; the row: `rootsOver` of policy/specs/Standing.antt.
 use mathlib.Core.Bool.{false≢true}
 use mathlib.Core.List.{List}
 use mathlib.Core.Path.{_≡_, sym, ap, _∙_}

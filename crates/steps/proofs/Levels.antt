@@ -1,5 +1,6 @@
--- What waits, by depths: the highest place of the deepest row is the top path's last, and what the top path's children go on by is a row
--- of its own. Assumes nothing.
+-- What waits, by depths: the highest place of the deepest row is the top path's last (`met`), and what the top path's children go on by is
+-- a row of its own (`stayed`, `sank`). In order: the paths that a row offers, the depths, where a search begins, a depth left (`climbed`),
+-- a place taken. For the loop of `walk`; what waits by depths: specs/Parts.antt; the stack: order/specs/Walk.antt; how it ends: Ends.antt.
 use mathlib.Core.Bool.{Bool, true, false, not, _&&_, _||_, false≢true}
 use mathlib.Core.List.{List, [], _∷_, _++_, map, List·Memᴰ·head as here, List·Memᴰ·tail as there, List·Memᴰ·append-cases, List·Memᴰ·eq-of-singleton}
 use mathlib.Core.Logic.{⊎-elim}

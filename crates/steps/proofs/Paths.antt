@@ -1,4 +1,4 @@
--- The places that a path and one more use. Assumes nothing.
+-- The places that a path and one more use (`used-snoc`), for Levels.antt. `used` is in order/specs/Walk.antt.
 use mathlib.Core.Path.{_≡_, refl}
 use mathlib.Core.Bool.{Bool, true, false, _||_}
 use mathlib.Core.List.{List, [], _∷_, _++_}

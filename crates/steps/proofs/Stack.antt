@@ -1,4 +1,5 @@
--- The path of a slot, and the room that holds paths. Assumes nothing.
+-- The path of a slot (`path-slot`, `slot-len`, `slot-next`), and the room that holds paths (`push-room`). For Laid.antt and `lay_row`;
+-- `pathOf` is in specs/Parts.antt, `slotOf` in reply/specs/Slots.antt.
 use mathlib.Core.Path.{_≡_, sym, ap, _∙_}
 use mathlib.Core.List.{List, [], _∷_, _++_, append-assoc}
 use Prim.Native.Nat.{ℕ, _+_, _-_, _*_, _≤_, _<_}

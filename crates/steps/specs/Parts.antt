@@ -1,4 +1,6 @@
--- What the private functions promise each other. Assumes nothing.
+-- What the private functions promise each other: the path of a slot; what is asked of the walk; what waits, by depths; a walk from any
+-- stack, and how it ends. A reader need not believe this file: what `search` and `paused` promise is reply/specs/Answer.antt, of the
+-- question's places and roots (question/specs/Question.antt).
 use mathlib.Core.Bool.{false, not, _&&_}
 use mathlib.Core.List.{List, [], _∷_, _++_, map}
 use mathlib.Core.Path.{_≡_}

@@ -1,4 +1,6 @@
--- What a relation of two arguments answers once both were judged through and something was found of them. Assumes nothing.
+-- What a relation of two arguments answers once both were judged through and something was found of them: of two things (`found`), of an
+-- RDN and an attribute (`has-found`). For `is_subtree_of` and `rdn_has_name`; where one is bad, or both were walked:
+-- same/proofs/Asked.antt.
 use Prim.Native.Nat.{ℕ}
 use mathlib.Core.Path.{_≡_}
 use mathlib.Core.Bool.{Bool, cond}

@@ -1,5 +1,5 @@
 -- Of two names the first of which has no more RDNs: whether as many RDNs of the second, walked beside the first's, are related
--- (`front-judged`). Assumes nothing.
+-- (`front-judged`), for the proof of `subtree`. Rows of one length: same/proofs/Walks.antt; what is asked: specs/Subtree.antt.
 use Prim.Native.Nat.{ℕ, _≤_}
 use mathlib.Core.Path.{_≡_, refl, sym, ap, _∙_}
 use mathlib.Core.Bool.{Bool, true}

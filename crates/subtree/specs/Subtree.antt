@@ -1,4 +1,7 @@
--- When an RDN or a name lies under another, each by the flag that says whether values are compared in normal form. Assumes nothing.
+-- When an RDN or a name lies under another, each by the flag that says whether values are compared in normal form (docs/CARD-FILE.md,
+-- "Names related"; upstream's `is_subtree_rdn`, `is_subtree_of`; RFC 5280, 7.1, which asks for more: docs/DIFFERENCES.md, F3).
+-- Not here: when two are the same (same/specs/Same.antt); an attribute looked for in an RDN (same/specs/Matching.antt); what is answered to
+-- encoded arguments (same/specs/Answers.antt); upstream's quantifiers (proofs/Upstream.antt).
 use mathlib.Core.Bool.{Bool, _&&_}
 use mathlib.Core.List.{List}
 use lib.ListN.{length}

@@ -1,4 +1,4 @@
--- The purpose is read from left to right. Assumes nothing.
+-- The purpose is read from left to right (`purpose-forward`), for card/proofs/Forward.antt. What that means: fields/proofs/Forward.antt.
 use lib.Dec.{eqb}
 use Rattle.fields.proofs.Forward.{Forward, value, judged, then}
 use Rattle.fields.proofs.ForwardFields.{byte-forward}

@@ -1,4 +1,5 @@
--- What a task that was read says of its host: it stands in the file, and the task ends with it. Assumes nothing.
+-- What a task that was read says of its host: it stands in the file (`host-read`), and the task ends with it (`host-ends`). For
+-- card/proofs/Sections.antt; where the task stands: specs/Placed.antt.
 use Prim.Native.Nat.{ℕ, _≤_}
 use mathlib.Core.Path.{_≡_}
 use mathlib.Core.List.{List}

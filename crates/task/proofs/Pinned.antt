@@ -1,5 +1,5 @@
--- No two readings of a task say the same: what `task_after` promises pins its answer down, a task that was read and a fault alike.
--- Assumes nothing.
+-- No two readings of a task say the same (`task-pins`): what `task_after` promises pins its answer down, a task that was read and a fault
+-- alike. By `held-pins` of fields/proofs/Pinned.antt.
 use mathlib.Core.Path.{_≡_, ap}
 use Rattle.fields.specs.Answers.{held, Emptied}
 use Rattle.fields.specs.declared.Past.{Past}

@@ -1,4 +1,5 @@
--- The task by its values is what stands where its reader found it, whatever is made of it (`task-valued`). Assumes nothing.
+-- The task by its values is what stands where its reader found it, whatever is made of it (`task-valued`), for card/proofs/Values.antt. By
+-- its place: specs/Placed.antt; by its values: `sectionsP` of card/specs/Content.antt.
 use Prim.Native.Nat.{ℕ}
 use mathlib.Core.Path.{_≡_, sym, _∙_}
 use mathlib.Core.List.{List}

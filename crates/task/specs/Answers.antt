@@ -1,4 +1,5 @@
--- What each case of an answer stands for: the values, or the number of the reply. Assumes nothing.
+-- What each case of the answer of `times_at` stands for: the values, or the number of the fault. What `task_after` answers is `held` of
+-- fields/specs/Answers.antt, of the task of Placed.antt.
 use Prim.Native.Nat.{ℕ}
 use Rattle.fields.specs.Fields.{Parsed, got, stop}
 use Rattle.fields.specs.Answers.{number}

@@ -1,4 +1,6 @@
--- Where the task stands, for readers that copy nothing: numbers, and the host's place in the file. Assumes nothing.
+-- Where the task stands, for readers that copy nothing: numbers, and the host's place in the file; then what stands where nothing was read.
+-- The purpose and the host's limit: Task.antt; the task by its values: `sectionsP` of card/specs/Content.antt, joined to this in
+-- proofs/Values.antt.
 use Prim.Native.Nat.{ℕ}
 use mathlib.Core.List.{List}
 use Rattle.fields.specs.Fields.{Parsed, got, after, countP, bigP}

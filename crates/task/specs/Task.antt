@@ -1,4 +1,5 @@
--- The purpose and the host's limit in the task of a card file (docs/CARD-FILE.md, "Layout"). Assumes nothing.
+-- The purpose and the host's limit in the task of a card file (docs/CARD-FILE.md, "Layout"). A reader must believe this file (docs/MAP.md).
+-- Not here: the task's parts in their order (`sectionsP` of card/specs/Content.antt); where they stand in a file (Placed.antt).
 use Prim.Native.Nat.{ℕ}
 use mathlib.Core.Bool.{cond}
 use mathlib.Core.List.{List}

@@ -1,5 +1,6 @@
--- Two tests that both come out true, and what is said of each place below a number, taken apart at the first place: by these
--- a definition that tests a row from its head is the quantified form of the same test. Assumes nothing.
+-- Two tests that both come out true (`both-true`), and what is said of each place below a number, taken apart at the first place
+-- (`each-more`): by these a definition that tests a row from its head is the quantified form of the same test. For the Upstream.antt of
+-- keys, same and subtree, and policy/proofs/Chains.antt; `any` and `all` are in specs/Each.antt.
 use Prim.Native.Nat.{ℕ, zero, suc, _<_}
 use mathlib.Core.Path.{_≡_, refl}
 use mathlib.Core.Bool.{Bool, true, false, _&&_, false≢true}

@@ -1,5 +1,6 @@
--- The loop of `normalize_string` on plain lists: what holds at its head, a law for each arm, and what each return answers.
--- Assumes nothing.
+-- The loop of `normalize_string` on plain lists: what holds at its head (`start`), a law for each arm (`space`, `one`, `two`), and what
+-- each return answers (`refused`, `done`). What is answered and written: specs/Normalize.antt; that the loop's form is the normal form:
+-- NormalFrom.antt.
 use Prim.Native.Nat.{ℕ, _+_, _<_, _≤_}
 use mathlib.Core.Path.{_≡_, refl, sym, ap, _∙_}
 use mathlib.Core.Bool.{Bool, true, false, cond, _&&_}

@@ -1,5 +1,6 @@
--- A name under a domain as upstream's `match_name` asks it, and `match_lowering` with it: the name is longer than a dot and the domain, ends
--- with them, and what stands before has no dot. `under-domain` says that this is `underDomain`. Assumes nothing.
+-- A name under a domain as upstream's `match_name` asks it, and `match_lowering` with it: the name is longer than a dot and the domain,
+-- ends with them, and what stands before has no dot. `under-domain` says that this is `underDomain` of specs/Wildcard.antt. The star:
+-- Star.antt.
 use Prim.Native.Nat.{ℕ, suc, _-_, _<_}
 use mathlib.Core.Path.{_≡_, refl, sym, ap, _∙_}
 use mathlib.Core.Bool.{Bool, true, false, cond, not, _&&_, _||_, false≢true}

@@ -1,4 +1,5 @@
--- What `lowered` comes to below A, above Z and between them. Assumes nothing.
+-- What `lowered` comes to below A, above Z and between them, for the proof of `lower`. It is defined in specs/Bytes.antt; whole strings
+-- lowered: Lowering.antt.
 use Prim.Native.Nat.{ℕ, _+_, _<_, _≤_}
 use mathlib.Core.Path.{_≡_}
 use native.Mathlib.Omega.{arith}

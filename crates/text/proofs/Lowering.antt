@@ -1,5 +1,6 @@
--- A string whose bytes are lowered where that is asked: its cuts (`low-take`, `low-drop`), what lowering does not move (`low-sign`, and so
--- the star of `low-star` and the dot of `low-dot`), and a string that is compared as it stands (`low-none`). Assumes nothing.
+-- A string whose bytes are lowered where that is asked: one that is compared as it stands (`low-none`), its cuts (`low-take`, `low-drop`),
+-- what lowering does not move (`lowered-sign`, and so the dot of `low-dot` and the star of `low-star`). For Star.antt and src/wildcard.rt;
+-- a byte lowered: specs/Bytes.antt, specs/Private.antt.
 use Prim.Native.Nat.{ℕ, zero, suc, _+_, _<_, _≤_}
 use mathlib.Core.Path.{_≡_, refl, sym, _∙_}
 use mathlib.Core.Bool.{Bool, true, false, cond, _&&_}

@@ -1,5 +1,5 @@
--- The normal form as the loop of `normalize_string` writes it, byte by byte, with two flags: `normalFrom`, and the law `normal-from` that
--- this is the normal form of `specs/Normal.antt`. Assumes nothing.
+-- The normal form as the loop of `normalize_string` writes it, byte by byte, with upstream's two flags: `normalFrom`, and the law
+-- `normal-from` that this is the normal form of specs/Normal.antt. The loop itself: Form.antt.
 use Prim.Native.Nat.{ℕ}
 use mathlib.Core.Path.{_≡_, refl, _∙_}
 use mathlib.Core.Bool.{Bool, true, false, cond, _&&_}

@@ -1,4 +1,5 @@
--- No two answers of `normalize_string` have the same number and bytes, so the clause on `formOf` pins the answer. Assumes nothing.
+-- No two answers of `normalize_string` have the same number and bytes (`form-pins`), so the clause on `formOf` pins the answer. `formOf` is
+-- in specs/Normalize.antt.
 use Prim.Native.Nat.{ℕ, zero, suc}
 use mathlib.Core.Path.{_≡_, refl, sym, ap, _∙_}
 use Rattle.text.specs.Normalize.{Formed, formOf}

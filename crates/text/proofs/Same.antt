@@ -1,5 +1,5 @@
--- `same` is equality (`same-sound`, `same-refl`); the laws of byte strings compared, as the loops and returns of `src/bytes.rt` need
--- them; and what `&l[k..]` reads. Assumes nothing.
+-- `same` is equality (`same-sound`, `same-refl`); the laws of byte strings compared, as the loops and returns of src/bytes.rt need them;
+-- and what a string from a place on reads (`tail`). Definitions: specs/Bytes.antt, specs/Private.antt.
 use Prim.Native.Nat.{ℕ, _+_, _-_, _<_, _≤_}
 use mathlib.Core.Path.{_≡_, refl, sym, ap, _∙_}
 use mathlib.Core.Bool.{Bool, true, false, _&&_, and-true, and-assoc, false≢true}

@@ -1,4 +1,6 @@
--- What `matchName` comes to under each test of `match_lowering`, of strings that are lowered where that is asked. Assumes nothing.
+-- What `matchName` comes to under each test of `match_lowering`, of strings that are lowered where that is asked; and upstream's tests of a
+-- name under the star (`star-upstream`). Definitions: specs/Wildcard.antt; a name under a domain: Label.antt; strings lowered:
+-- Lowering.antt.
 use Prim.Native.Nat.{ℕ, suc, _-_, _<_, _≤_}
 use mathlib.Core.Path.{_≡_, sym, ap, _∙_}
 use mathlib.Core.Bool.{Bool, true, false, not, _&&_}

@@ -1,6 +1,6 @@
--- For Verdict's clauses that compare strings: where values are normalised its `same_attr` takes equal values or equal normal
--- forms (`normal-same`: the second suffices), and its `check_auth_key_id` has the key ids the other way round (`same-sym`).
--- Assumes nothing.
+-- For Verdict's clauses that compare strings: where values are normalised its `same_attr` takes equal values or equal normal forms
+-- (`normal-same`: the second suffices), and its `check_auth_key_id` has the key ids the other way round (`same-sym`). The clauses:
+-- same/proofs/Upstream.antt, keys/proofs/Upstream.antt; `match_name`: Star.antt.
 use Prim.Native.Nat.{ℕ}
 use mathlib.Core.Path.{_≡_, refl, sym, _∙_}
 use mathlib.Core.Bool.{Bool, true, false, false≢true}

@@ -1,4 +1,6 @@
--- A byte lowered, and byte strings compared. Assumes nothing.
+-- A byte lowered (docs/CARD-FILE.md, "Text"), and byte strings compared: the same bytes, and the beginning of a string. A reader must
+-- believe this file (docs/MAP.md).
+-- Not here: the normal form (Normal.antt), a star (Wildcard.antt); that `same` is equality (proofs/Same.antt).
 use Prim.Native.Nat.{ℕ, _+_}
 use mathlib.Core.Bool.{Bool, true, false, cond, _&&_}
 use mathlib.Core.List.{List, [], _∷_}

@@ -1,4 +1,5 @@
--- A test asked of each element of a list. Assumes nothing.
+-- A test asked of each element of a list: of some, then of every one. A reader must believe this file (docs/MAP.md). Two lists compared
+-- place by place: `places` of same/specs/Same.antt; the same by places, as upstream's quantifiers have it: subtree/proofs/Upstream.antt.
 use mathlib.Core.Bool.{Bool, true, false, _&&_, _||_}
 use mathlib.Core.List.{List, [], _∷_}
 

@@ -1,5 +1,7 @@
--- The normal form of a string, in which names are compared (RFC 5280, 7.1): its words, lowered and joined by one space.
--- Assumes nothing.
+-- The normal form of a string, in which names are compared (docs/CARD-FILE.md, "Text"; upstream's `normalize_string`; RFC 5280, 7.1): its
+-- words, lowered and joined by one space. A reader must believe this file (docs/MAP.md).
+-- Not here: what the function answers and writes (Normalize.antt); the form byte by byte, as upstream has it (`normal-from` of
+-- proofs/NormalFrom.antt); a byte lowered (Bytes.antt).
 use Prim.Native.Nat.{ℕ}
 use mathlib.Core.Bool.{cond}
 use mathlib.Core.List.{List, [], _∷_, map, flatMap}

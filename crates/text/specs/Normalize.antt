@@ -1,4 +1,5 @@
--- What `normalize_string` answers and what it leaves in the lent room. Assumes nothing.
+-- What `normalize_string` answers and what it leaves in the lent room. The normal form itself: Normal.antt; that no two answers say the
+-- same: proofs/Pinned.antt.
 use Prim.Native.Nat.{ℕ}
 use mathlib.Core.Bool.{cond}
 use mathlib.Core.List.{List, _++_}

@@ -1,4 +1,5 @@
--- What the crate's private functions promise beyond `Bytes`. No published contract cites these. Assumes nothing.
+-- What the crate's private functions promise beyond Bytes.antt: a byte lowered where that is asked, and a byte looked for. No published
+-- contract cites these.
 use Prim.Native.Nat.{ℕ}
 use mathlib.Core.Bool.{Bool, false, cond, _||_}
 use mathlib.Core.List.{List, [], _∷_}

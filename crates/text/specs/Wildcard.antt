@@ -1,4 +1,7 @@
--- When a host name fits a pattern (upstream's `match_name`, by the law `star-upstream`). Assumes nothing.
+-- When a host name fits a pattern (docs/CARD-FILE.md, "Text"; upstream's `match_name`, by the law `star-upstream` of proofs/Star.antt; RFC
+-- 6125, 6.4.3, which lets no star match the bare domain: docs/DIFFERENCES.md, F1). A reader must believe this file (docs/MAP.md).
+-- In order: the label before the first dot, a name under a domain, a name under the star, a pattern. All byte for byte: `namesHost` of
+-- rules/specs/Rules.antt lowers host and DNS name before.
 use Prim.Native.Nat.{ℕ}
 use mathlib.Core.Bool.{Bool, cond, _&&_, _||_}
 use mathlib.Core.List.{List, [], _∷_}

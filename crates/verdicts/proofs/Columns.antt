@@ -1,4 +1,5 @@
--- A row's verdict in a column: one law for each answer of `signed_at`, `root_signed` and `bundle_signed`. Assumes nothing.
+-- A row's verdict in a column: one law for each answer of `signed_at`, `root_signed` and `bundle_signed`. What is answered:
+-- specs/Grid.antt; that it is what the file says: card/proofs/Signed.antt.
 use Prim.Native.Nat.{ℕ, _+_, _*_, _<_, _≤_}
 use mathlib.Core.Path.{_≡_}
 use mathlib.Core.Bool.{false, and-false}

@@ -1,4 +1,5 @@
--- A verdict and the verdicts are read from left to right. Assumes nothing.
+-- A verdict and the verdicts are read from left to right (`verdict-forward`, `verdicts-forward`), for card/proofs/Forward.antt. What that
+-- means: fields/proofs/Forward.antt.
 use Prim.Native.Nat.{ℕ, _+_, _*_}
 use lib.Dec.{eqb, leb}
 use Rattle.fields.proofs.Forward.{Forward, count, value, judged, judging, then}

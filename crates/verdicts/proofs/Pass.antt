@@ -1,5 +1,6 @@
--- Verdicts judged in one pass over their bytes: the loop that looks for a byte above yes (`seen-next`, `seen-ends`), where n verdicts
--- end (`rows-judged`), and one law for each answer of `verdict_rows`. Assumes nothing.
+-- Verdicts judged in one pass over their bytes: the loop of `any_above_yes` (`seen-next`, `seen-ends`), where n verdicts end
+-- (`rows-judged`), and one law for each answer of `verdict_rows` (`rows-bad`, `rows-cut`, `rows-got`). A verdict: specs/Verdicts.antt; the
+-- pass: specs/Parts.antt.
 use Prim.Native.Nat.{ℕ, zero, suc, _+_, _-_, _<_, _≤_}
 use mathlib.Core.Path.{_≡_, refl, sym, _∙_}
 use mathlib.Core.Bool.{Bool, true, false, cond, _||_, or-false, or-assoc, false≢true}

@@ -1,5 +1,5 @@
--- No two readings of verdicts say the same: what `verdicts_after` promises pins its answer down, verdicts that were read and a fault
--- alike. Assumes nothing.
+-- No two readings of verdicts say the same (`verdicts-pins`): what `verdicts_after` promises pins its answer down, verdicts that were read
+-- and a fault alike. By `held-pins` of fields/proofs/Pinned.antt.
 use mathlib.Core.Path.{_≡_, ap}
 use Rattle.fields.specs.Answers.{held, Emptied}
 use Rattle.fields.specs.declared.Past.{Past}

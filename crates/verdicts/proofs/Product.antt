@@ -1,5 +1,6 @@
--- The verdicts and their count, which must be the product of issuers and subjects: how large it can be, where the verdicts begin, and
--- one law for each answer of `verdicts_after` where the bundle ends. Assumes nothing.
+-- The verdicts and their count, which must be the product of issuers and subjects: how large it can be (`few`), where the verdicts begin
+-- (`begins-within`), and one law for each answer of `verdicts_after` where the bundle ends (`uncounted`, `miscounted`, `all-read`). Where
+-- the verdicts stand: specs/Grid.antt; their bytes judged: Pass.antt.
 use Prim.Native.Nat.{ℕ, _+_, _*_, _<_, _≤_}
 use mathlib.Core.Path.{_≡_, sym, _∙_}
 use mathlib.Core.List.{List}

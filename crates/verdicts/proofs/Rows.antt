@@ -1,5 +1,5 @@
--- What verdicts that were read say: they are as many as so many roots and so large a bundle ask (`rows-read`), and each is the byte
--- where it stands (`verdict-byte`). Assumes nothing.
+-- What verdicts that were read say: they are as many as so many roots and so large a bundle ask (`rows-read`), and each is the byte where
+-- it stands (`verdict-byte`). For card/proofs/Sections.antt and card/proofs/Signed.antt; where they stand: specs/Grid.antt.
 use Prim.Native.Nat.{ℕ, zero, suc, _+_, _*_, _<_}
 use mathlib.Core.Path.{_≡_, refl, sym, ap, _∙_}
 use mathlib.Core.List.{List, _∷_}

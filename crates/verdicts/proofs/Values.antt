@@ -1,4 +1,5 @@
--- The verdicts by their values are what stands where their reader found them, with the same faults (`grid-valued`). Assumes nothing.
+-- The verdicts by their values are what stands where their reader found them, with the same faults (`grid-valued`), for
+-- card/proofs/Values.antt. By their place: specs/Grid.antt; by their values: specs/Verdicts.antt.
 use Prim.Native.Nat.{ℕ, _+_, _*_}
 use mathlib.Core.Path.{_≡_, refl, sym, _∙_}
 use mathlib.Core.Bool.{Bool, true, false, cond}

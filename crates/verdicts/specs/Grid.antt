@@ -1,5 +1,6 @@
 -- Where the verdicts stand, for readers that copy nothing: a row for each issuer, roots first, and a column for each subject; and the
--- verdict on an issuer and a subject. Assumes nothing.
+-- verdict on an issuer and a subject. By their values: Verdicts.antt, and `signed` of card/specs/Content.antt, joined to this in
+-- proofs/Values.antt and card/proofs/Signed.antt.
 use Prim.Native.Nat.{ℕ, _+_, _*_}
 use mathlib.Core.Bool.{Bool, cond, _&&_}
 use mathlib.Core.List.{List}

@@ -1,4 +1,6 @@
--- The verdicts of a card file: who signed whom, after their count (docs/CARD-FILE.md, "Layout"). Assumes nothing.
+-- The verdicts of a card file: who signed whom, after their count (docs/CARD-FILE.md, "Layout"). A reader must believe this file
+-- (docs/MAP.md).
+-- Not here: which verdict is whose (`signed` of card/specs/Content.antt); where they stand in a file (Grid.antt).
 use Prim.Native.Nat.{ℕ, _+_, _*_}
 use mathlib.Core.Bool.{cond}
 use mathlib.Core.List.{List}

@@ -1,4 +1,4 @@
--- `edition_past` ends past edition 1 in a file that is not too long, and judges the length first. Assumes nothing.
+-- `edition_past` ends past edition 1 in a file that is not too long, and judges the length first.
 use borrow.Author.Tests.{le-leb, lt-leb, eq-eqb, ne-eqb}
 use borrow.Author.Needs.{needs}
 use mathlib.Core.Path.{sym, ap, _∙_}

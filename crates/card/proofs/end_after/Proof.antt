@@ -1,4 +1,4 @@
--- `end_after` is the file's end, where nothing is left over after the task. Assumes nothing.
+-- `end_after` is the file's end, where nothing is left over after the task.
 use borrow.Author.Tests.{lt-ltb, le-ltb}
 use borrow.Author.Needs.{needs}
 use mathlib.Core.Path.{ap}

@@ -1,4 +1,4 @@
--- `read` hands each section where the last one ended to the next, which makes the whole card. Assumes nothing.
+-- `read` hands each section where the last one ended to the next, which makes the whole card.
 use mathlib.Core.Path.{ap, _∙_}
 use Rattle.card.specs.Answers.{answer}
 use Rattle.card.proofs.Chain.{chained}

@@ -1,4 +1,4 @@
--- `settled` hands out the card where nothing is left over, and with a fault nothing of what was read before it. Assumes nothing.
+-- `settled` hands out the card where nothing is left over, and with a fault nothing of what was read before it.
 use Rattle.fields.specs.Answers.{held}
 use borrow.Author.Needs.{needs}
 use Rattle.card.proofs.settled.Statement.{statement}

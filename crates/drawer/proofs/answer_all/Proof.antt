@@ -1,4 +1,4 @@
--- `drawer::answer_all` meets its contract. The loop's invariant: no more lines were passed than there are. Assumes nothing.
+-- `drawer::answer_all` meets its contract. The loop's invariant: no more lines were passed than there are.
 use borrow.Author.Needs.{needs}
 use Prim.Native.Nat.{_≤_, _-_}
 use Rattle.drawer.proofs.answer_all.Statement.{statement}

@@ -1,5 +1,5 @@
 -- `extensions_at` answers key ids, path length and the two lists, one after the other, or the first fault.
--- A letter is the place after a part's call, and primed the place where the part was found. Assumes nothing.
+-- A letter is the place after a part's call, and primed the place where the part was found.
 use borrow.Author.Needs.{needs}
 use Prim.Native.Nat.{ℕ}
 use mathlib.Core.List.{List}

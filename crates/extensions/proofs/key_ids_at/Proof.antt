@@ -1,5 +1,5 @@
 -- `key_ids_at` answers the parts that the flags announce, one after the other, or the first fault.
--- A letter is the place after a part's call, and primed the place where the part was found. Assumes nothing.
+-- A letter is the place after a part's call, and primed the place where the part was found.
 use borrow.Author.Needs.{needs}
 use Prim.Native.Nat.{ℕ}
 use mathlib.Core.Path.{_≡_, sym, ap, _∙_}

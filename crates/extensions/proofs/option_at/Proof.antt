@@ -1,4 +1,4 @@
--- `option_at` answers the string where its flag is set, and nowhere where it is not. Assumes nothing.
+-- `option_at` answers the string where its flag is set, and nowhere where it is not.
 use borrow.Author.Needs.{needs}
 use mathlib.Core.Path.{sym, ap, _∙_}
 use Rattle.fields.specs.Answers.{spanned}

@@ -1,4 +1,4 @@
--- `path_length_at` answers a byte where its flag is set, and 0 where it is not. Assumes nothing.
+-- `path_length_at` answers a byte where its flag is set, and 0 where it is not.
 use borrow.Author.Needs.{needs}
 use Prim.Native.Nat.{ℕ}
 use mathlib.Core.Bool.{true, false}

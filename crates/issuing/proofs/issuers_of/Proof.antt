@@ -1,4 +1,4 @@
--- `issuers_of` takes one row after another in. The invariant: those of the rows from j on. Assumes nothing.
+-- `issuers_of` takes one row after another in. The invariant: those of the rows from j on.
 use borrow.Author.Needs.{needs}
 use native.Mathlib.Omega.{arith}
 use mathlib.Core.Path.{_≡_, sym, _∙_}

@@ -1,4 +1,4 @@
--- `who_issued` fills both rows of a subject in a turn. The invariant: the rows of the subjects below j, and zeros past them. Assumes nothing.
+-- `who_issued` fills both rows of a subject in a turn. The invariant: the rows of the subjects below j, and zeros past them.
 use borrow.Author.Needs.{needs}
 use Prim.Native.Nat.{_-_}
 use mathlib.Core.Path.{ap, _∙_}

@@ -1,4 +1,4 @@
--- `slots` answers by the printed table: its rule is a test that antt computes at each of its entries. Assumes nothing.
+-- `slots` answers by the printed table: its rule is a test that antt computes at each of its entries.
 use mathlib.Core.Bool.{Bool, true, false, cond}
 use mathlib.Core.List.{List}
 use mathlib.Core.Path.{_≡_, refl, sym}

@@ -1,4 +1,4 @@
--- `pose` puts the question of the card that was read, or tells why there is none. Assumes nothing.
+-- `pose` puts the question of the card that was read, or tells why there is none.
 use borrow.Author.Needs.{needs}
 use Rattle.question.proofs.Posing.{posed-read, posed-stopped}
 use Rattle.question.proofs.pose.Statement.{statement}

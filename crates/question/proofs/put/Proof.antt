@@ -1,4 +1,4 @@
--- `put` puts a card's question: its parts are what the functions below promise. Assumes nothing.
+-- `put` puts a card's question: its parts are what the functions below promise.
 use borrow.Author.Needs.{needs}
 use mathlib.Core.Path.{ap, _∙_}
 use Rattle.policy.specs.Sound.{judgedOf}

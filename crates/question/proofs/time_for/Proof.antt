@@ -1,4 +1,4 @@
--- `time_for` answers the card's own time or the one that is handed in. Assumes nothing.
+-- `time_for` answers the card's own time or the one that is handed in.
 use borrow.Author.Needs.{needs}
 use Rattle.question.proofs.time_for.Statement.{statement}
 use Rattle.question.proofs.time_for.Tie as tie

@@ -1,5 +1,5 @@
 -- `record_at` answers a record's four groups of parts, one after the other, or the first fault.
--- A letter is the place after a part's call, and primed the place where the part was found. Assumes nothing.
+-- A letter is the place after a part's call, and primed the place where the part was found.
 use borrow.Author.Needs.{needs}
 use mathlib.Core.Path.{sym, ap, _∙_}
 use Rattle.fields.specs.Answers.{counted}

@@ -1,4 +1,4 @@
--- `main` ends: each turn leaves one argument fewer. Its contract says no more. Assumes nothing.
+-- `main` ends: each turn leaves one argument fewer. Its contract says no more.
 use Prim.Native.Nat.{_-_}
 use borrow.Author.Needs.{needs}
 use Rattle.replay.proofs.main.Statement.{statement}

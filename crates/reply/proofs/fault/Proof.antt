@@ -1,4 +1,4 @@
--- `fault` answers what stands in the way of a search, by its tests. Assumes nothing.
+-- `fault` answers what stands in the way of a search, by its tests.
 use borrow.Author.Needs.{needs}
 use mathlib.Core.Path.{sym, ap, _∙_}
 use Rattle.reply.specs.Numbers.{faultOf}

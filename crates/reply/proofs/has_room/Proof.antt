@@ -1,4 +1,4 @@
--- `has_room` answers whether so many bytes have the slots that n certificates need. Assumes nothing.
+-- `has_room` answers whether so many bytes have the slots that n certificates need.
 use borrow.Author.Needs.{needs}
 use mathlib.Core.Path.{sym}
 use native.Mathlib.Omega.{arith}

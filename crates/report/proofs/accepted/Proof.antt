@@ -1,4 +1,4 @@
--- `accepted` writes the steps, the root and the path. Assumes nothing.
+-- `accepted` writes the steps, the root and the path.
 use borrow.Author.Needs.{needs}
 use mathlib.Core.List.{[]}
 use Prim.Native.Nat.{_≤_}

@@ -1,4 +1,4 @@
--- `line_of` writes each case of a reply in its words. Assumes nothing.
+-- `line_of` writes each case of a reply in its words.
 use borrow.Author.Needs.{needs}
 use Rattle.report.proofs.Replies.{line-accepted, line-refused, line-exhausted, line-error}
 use Rattle.report.proofs.line_of.Statement.{statement}

@@ -1,4 +1,4 @@
--- `numbered` writes a word, a number of at most 20 digits and a newline. Assumes nothing.
+-- `numbered` writes a word, a number of at most 20 digits and a newline.
 use borrow.Author.Needs.{needs}
 use mathlib.Core.List.{[], _++_}
 use native.Mathlib.Omega.{arith}

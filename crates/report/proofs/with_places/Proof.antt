@@ -1,5 +1,4 @@
 -- `with_places` writes a path's places, each after a space. After j turns j of them stand behind the line, at most four bytes each.
--- Assumes nothing.
 use borrow.Author.Needs.{needs}
 use mathlib.Core.List.{List, _++_, map, append-nil}
 use mathlib.Core.Path.{_≡_, refl, ap, sym, _∙_}

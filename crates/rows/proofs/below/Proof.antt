@@ -1,4 +1,4 @@
--- `rows::below` meets its contract. Assumes nothing.
+-- `rows::below` meets its contract.
 use borrow.Author.Needs.{needs}
 use Rattle.rows.proofs.Upper.{below-some, below-all, shifted-some}
 use Rattle.rows.proofs.below.Statement.{statement}

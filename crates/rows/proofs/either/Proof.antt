@@ -1,4 +1,4 @@
--- `rows::either` meets its contract. Assumes nothing.
+-- `rows::either` meets its contract.
 use mathlib.Core.Path.{refl}
 use Rattle.rows.specs.Rows.{either}
 use Rattle.rows.proofs.either.Statement.{statement}

@@ -1,4 +1,4 @@
--- `rows::has` meets its contract. Assumes nothing.
+-- `rows::has` meets its contract.
 use borrow.Author.Needs.{needs}
 use native.Mathlib.Omega.{arith}
 use mathlib.Core.Path.{sym}

@@ -1,4 +1,4 @@
--- `rows::highest` meets its contract. Assumes nothing.
+-- `rows::highest` meets its contract.
 use borrow.Author.Needs.{needs}
 use native.Mathlib.Omega.{arith}
 use Rattle.rows.proofs.Upper.{highest-zero, zeros-less, highest-zeros}

@@ -1,4 +1,4 @@
--- `rows::lowest` meets its contract. Assumes nothing.
+-- `rows::lowest` meets its contract.
 use Rattle.rows.proofs.Words.{zeros-fit, lowest-zeros}
 use Rattle.rows.proofs.lowest.Statement.{statement}
 use Rattle.rows.proofs.lowest.Tie as tie

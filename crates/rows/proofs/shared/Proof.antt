@@ -1,4 +1,4 @@
--- `rows::shared` meets its contract. Assumes nothing.
+-- `rows::shared` meets its contract.
 use mathlib.Core.Path.{refl}
 use Rattle.rows.specs.Rows.{common}
 use Rattle.rows.proofs.shared.Statement.{statement}

@@ -1,4 +1,4 @@
--- `rows::with` meets its contract. Assumes nothing.
+-- `rows::with` meets its contract.
 use borrow.Author.Needs.{needs}
 use native.Mathlib.Omega.{arith}
 use mathlib.Core.Path.{sym}

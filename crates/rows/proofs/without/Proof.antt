@@ -1,4 +1,4 @@
--- `rows::without` meets its contract. Assumes nothing.
+-- `rows::without` meets its contract.
 use mathlib.Core.Path.{refl}
 use Rattle.rows.specs.Rows.{left}
 use Rattle.rows.proofs.without.Statement.{statement}

@@ -1,4 +1,4 @@
--- `paused` hands a file's question and k to the paused run over it, and tells why a file can't be read. Assumes nothing.
+-- `paused` hands a file's question and k to the paused run over it, and tells why a file can't be read.
 use borrow.Author.Needs.{needs}
 use Rattle.question.proofs.Asked.{stop-says}
 use Rattle.reply.proofs.Faults.{stopped}

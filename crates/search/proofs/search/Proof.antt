@@ -1,4 +1,4 @@
--- `search` hands a file's question to the search over it, and tells why a file can't be read. Assumes nothing.
+-- `search` hands a file's question to the search over it, and tells why a file can't be read.
 use borrow.Author.Needs.{needs}
 use Rattle.question.proofs.Asked.{stop-says}
 use Rattle.reply.proofs.Faults.{stopped}

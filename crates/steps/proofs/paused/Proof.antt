@@ -1,4 +1,4 @@
--- `paused` replies as its contract says. Assumes nothing.
+-- `paused` replies as its contract says.
 use native.Mathlib.Omega.{arith}
 use mathlib.Core.Path.{sym, _∙_}
 use lib.ListN.{length}

@@ -1,4 +1,4 @@
--- `search` replies as its contract says. Assumes nothing.
+-- `search` replies as its contract says.
 use native.Mathlib.Omega.{arith}
 use mathlib.Core.Path.{sym, _∙_}
 use Prim.Native.Nat.{zero-le}

@@ -1,4 +1,4 @@
--- `no_task` says its fault, and beside it that nothing is asked. Assumes nothing.
+-- `no_task` says its fault, and beside it that nothing is asked.
 use borrow.Author.Needs.{needs}
 use mathlib.Core.Path.{refl}
 use Rattle.fields.specs.Answers.{held}

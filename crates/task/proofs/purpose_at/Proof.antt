@@ -1,4 +1,4 @@
--- `purpose_at` ends past the server's byte, and judges it when it is read. Assumes nothing.
+-- `purpose_at` ends past the server's byte, and judges it when it is read.
 use borrow.Author.Tests.{eq-eqb, ne-eqb}
 use borrow.Author.Needs.{needs}
 use mathlib.Core.Path.{sym, ap, _∙_}

@@ -1,4 +1,4 @@
--- `task_after` reads the task where the verdicts end, and passes on a fault. Assumes nothing.
+-- `task_after` reads the task where the verdicts end, and passes on a fault.
 use borrow.Author.Needs.{needs}
 use mathlib.Core.Path.{ap}
 use Rattle.fields.specs.Answers.{passed}

@@ -1,4 +1,4 @@
--- `task_at` answers the times, the purpose and the host one after the other, or the first fault. Assumes nothing.
+-- `task_at` answers the times, the purpose and the host one after the other, or the first fault.
 use borrow.Author.Needs.{needs}
 use mathlib.Core.Path.{sym, ap, _∙_}
 use Rattle.fields.specs.Answers.{passed, spanned, held}

@@ -1,4 +1,4 @@
--- `times_at` answers now and budget after a count of 1, or the first fault. Assumes nothing.
+-- `times_at` answers now and budget after a count of 1, or the first fault.
 use borrow.Author.Needs.{needs}
 use mathlib.Core.Path.{sym, ap, _∙_}
 use Rattle.fields.specs.Answers.{counted, numbered}

@@ -1,4 +1,4 @@
--- `tray::answer_all` meets its contract. The measure is what is left of the file. Assumes nothing.
+-- `tray::answer_all` meets its contract. The measure is what is left of the file.
 use borrow.Author.Needs.{needs}
 use Prim.Native.Nat.{_+_, _-_}
 use lib.ListN.{length}

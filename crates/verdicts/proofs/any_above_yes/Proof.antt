@@ -1,5 +1,5 @@
 -- `any_above_yes` meets its contract. The loop's invariant: some byte is above yes where one was found so far or is found in what is
--- left. The measure is what is left. Assumes nothing.
+-- left. The measure is what is left.
 use Prim.Native.Nat.{_-_}
 use mathlib.Core.Path.{refl}
 use native.Mathlib.Omega.{arith}

@@ -1,4 +1,4 @@
--- `no_verdicts` says its fault, and beside it no verdicts. Assumes nothing.
+-- `no_verdicts` says its fault, and beside it no verdicts.
 use borrow.Author.Needs.{needs}
 use mathlib.Core.Path.{refl}
 use Rattle.fields.specs.Answers.{held}

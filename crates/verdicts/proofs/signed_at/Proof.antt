@@ -1,4 +1,4 @@
--- `signed_at` is whether a row's verdict in a column is 1, and no where there is no such column or no such byte. Assumes nothing.
+-- `signed_at` is whether a row's verdict in a column is 1, and no where there is no such column or no such byte.
 use Prim.Native.Nat.{_+_, _*_}
 use borrow.Author.Needs.{needs}
 use native.Mathlib.Omega.{arith}

@@ -1,4 +1,4 @@
--- `verdict_rows` answers its verdicts where so many of them are there and none is above yes, or the first fault. Assumes nothing.
+-- `verdict_rows` answers its verdicts where so many of them are there and none is above yes, or the first fault.
 use Prim.Native.Nat.{_+_, _≤_}
 use borrow.Author.Needs.{needs}
 use native.Mathlib.Omega.{arith}

@@ -1,4 +1,4 @@
--- `verdicts_after` reads the verdicts where the bundle ends, their count before any of them, and passes on a fault. Assumes nothing.
+-- `verdicts_after` reads the verdicts where the bundle ends, their count before any of them, and passes on a fault.
 use borrow.Author.Needs.{needs}
 use mathlib.Core.Path.{sym, ap, _∙_}
 use Rattle.fields.specs.Answers.{numbered, passed}

@@ -1,4 +1,4 @@
--- The sections of `Card::new` are fresh. Assumes nothing.
+-- The sections of `Card::new` are fresh.
 use Rattle.card.proofs.Nothing.{card-fresh}
 use borrow.Author.Needs.{needs}
 use Rattle.card.proofs.Card.new.Statement.{statement}

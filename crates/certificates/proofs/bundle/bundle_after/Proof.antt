@@ -1,4 +1,4 @@
--- `bundle_after` answers the bundle by their count and their records, or the first fault. Assumes nothing.
+-- `bundle_after` answers the bundle by their count and their records, or the first fault.
 use borrow.Author.Needs.{needs}
 use mathlib.Core.Path.{sym, ap, _∙_}
 use Rattle.fields.specs.Fields.{countedP}

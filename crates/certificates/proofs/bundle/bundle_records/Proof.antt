@@ -1,5 +1,5 @@
 -- `bundle_records` answers so many records in front of places that are as they were at first, or the first fault. The invariant: the first i
--- places hold the records that were read. Assumes nothing.
+-- places hold the records that were read.
 use borrow.Author.Needs.{needs}
 use Prim.Native.Nat.{_-_}
 use mathlib.Core.Path.{sym, ap, _∙_}

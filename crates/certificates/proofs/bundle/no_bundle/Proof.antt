@@ -1,4 +1,4 @@
--- `no_bundle` answers the fault, and beside it no certificates. Assumes nothing.
+-- `no_bundle` answers the fault, and beside it no certificates.
 use borrow.Author.Needs.{needs}
 use mathlib.Core.Path.{refl}
 use Rattle.fields.specs.Answers.{held}

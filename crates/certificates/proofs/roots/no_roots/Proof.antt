@@ -1,4 +1,4 @@
--- `no_roots` answers the fault, and beside it no roots. Assumes nothing.
+-- `no_roots` answers the fault, and beside it no roots.
 use borrow.Author.Needs.{needs}
 use mathlib.Core.Path.{refl}
 use Rattle.fields.specs.Answers.{held}

@@ -1,4 +1,4 @@
--- `roots_after` answers the roots by their count and their records, or the first fault. Assumes nothing.
+-- `roots_after` answers the roots by their count and their records, or the first fault.
 use borrow.Author.Needs.{needs}
 use mathlib.Core.Path.{sym, ap, _∙_}
 use Rattle.fields.specs.Fields.{countedP}

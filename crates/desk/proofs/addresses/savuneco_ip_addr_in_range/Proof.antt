@@ -1,4 +1,4 @@
--- `savuneco_ip_addr_in_range` answers as `ip_addr_in_range` does, yes and no as bytes. Assumes nothing.
+-- `savuneco_ip_addr_in_range` answers as `ip_addr_in_range` does, yes and no as bytes.
 use borrow.Author.Needs.{needs}
 use mathlib.Core.Path.{ap, _∙_}
 use Rattle.desk.specs.Leaves.{yesNo}

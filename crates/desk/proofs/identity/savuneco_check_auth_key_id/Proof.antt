@@ -1,4 +1,4 @@
--- `savuneco_check_auth_key_id` answers as `check_auth_key_id` does, yes and no as bytes. Assumes nothing.
+-- `savuneco_check_auth_key_id` answers as `check_auth_key_id` does, yes and no as bytes.
 use borrow.Author.Needs.{needs}
 use mathlib.Core.Path.{ap, _∙_}
 use Rattle.desk.specs.Leaves.{yesNo}

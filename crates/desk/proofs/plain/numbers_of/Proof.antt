@@ -1,4 +1,4 @@
--- `numbers_of` turns each place into its byte. After j turns the first j bytes are the places'. Assumes nothing.
+-- `numbers_of` turns each place into its byte. After j turns the first j bytes are the places'.
 use borrow.Author.Needs.{needs}
 use mathlib.Core.Path.{_≡_, refl, ap, _∙_}
 use mathlib.Core.List.{_++_, append-nil}

@@ -1,4 +1,4 @@
--- `savuneco_paused` says in plain numbers what `paused` answers. Assumes nothing.
+-- `savuneco_paused` says in plain numbers what `paused` answers.
 use borrow.Author.Needs.{needs}
 use Rattle.desk.proofs.searching.savuneco_paused.Statement.{statement}
 use Rattle.desk.proofs.searching.savuneco_paused.Tie as tie

@@ -1,4 +1,4 @@
--- `savuneco_search` says in plain numbers what `search` answers. Assumes nothing.
+-- `savuneco_search` says in plain numbers what `search` answers.
 use borrow.Author.Needs.{needs}
 use Rattle.desk.proofs.searching.savuneco_search.Statement.{statement}
 use Rattle.desk.proofs.searching.savuneco_search.Tie as tie

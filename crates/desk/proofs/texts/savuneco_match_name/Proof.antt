@@ -1,4 +1,4 @@
--- `savuneco_match_name` answers as `match_name` does, yes and no as bytes. Assumes nothing.
+-- `savuneco_match_name` answers as `match_name` does, yes and no as bytes.
 use borrow.Author.Needs.{needs}
 use mathlib.Core.Path.{ap, _∙_}
 use Rattle.desk.specs.Leaves.{yesNo}

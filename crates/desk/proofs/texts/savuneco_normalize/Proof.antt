@@ -1,4 +1,4 @@
--- `savuneco_normalize` answers and writes as `normalize_string` does, the answer in plain numbers. Assumes nothing.
+-- `savuneco_normalize` answers and writes as `normalize_string` does, the answer in plain numbers.
 use borrow.Author.Needs.{needs}
 use mathlib.Core.Path.{ap, _∙_}
 use Rattle.desk.specs.Leaves.{formed}

@@ -1,4 +1,4 @@
--- `standing_before` ends, and reads the path within its length. Assumes nothing.
+-- `standing_before` ends, and reads the path within its length.
 use borrow.Author.Needs.{needs}
 use Prim.Native.Nat.{_≤_, _-_}
 use lib.ListN.{length}

@@ -1,5 +1,5 @@
 -- `drawer::bytes::unescape` meets its contract. The loop's invariant: `at` and `n` are at most the lengths of the two slices, and `out` keeps its
--- own. The measure is what is left of the argument. Assumes nothing.
+-- own. The measure is what is left of the argument.
 use borrow.Author.Needs.{needs}
 use borrow.Author.Tests.{ltb-true}
 use native.Mathlib.Omega.{arith}

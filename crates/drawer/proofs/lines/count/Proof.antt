@@ -1,4 +1,4 @@
--- `drawer::lines::count` meets its contract. The loop's invariant: `i` is at most the length, and `n` at most `i`. Assumes nothing.
+-- `drawer::lines::count` meets its contract. The loop's invariant: `i` is at most the length, and `n` at most `i`.
 use borrow.Author.Needs.{needs}
 use native.Mathlib.Omega.{arith}
 use Prim.Native.Nat.{_≤_, _-_}

@@ -1,5 +1,4 @@
 -- `drawer::lines::part` meets its contract. The loop's invariant: the part begins at `i` or before it, and `i` is at most the length.
--- Assumes nothing.
 use borrow.Author.Needs.{needs}
 use native.Mathlib.Omega.{arith}
 use Prim.Native.Nat.{_≤_, _-_}

@@ -1,4 +1,4 @@
--- `drawer::lines::place` meets its contract. The loop's invariant: no more names were passed than there are. Assumes nothing.
+-- `drawer::lines::place` meets its contract. The loop's invariant: no more names were passed than there are.
 use borrow.Author.Needs.{needs}
 use Prim.Native.Nat.{_≤_, _-_}
 use Rattle.drawer.proofs.lines.place.Statement.{statement}

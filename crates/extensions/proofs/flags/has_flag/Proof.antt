@@ -1,4 +1,4 @@
--- `has_flag` answers by the flag's bit, and no for 0. Assumes nothing.
+-- `has_flag` answers by the flag's bit, and no for 0.
 use mathlib.Core.Path.{refl}
 use native.Mathlib.Nat.{div-zero}
 use borrow.Author.Needs.{needs}

@@ -1,4 +1,4 @@
--- `byte_at` answers the byte at a place. Assumes nothing.
+-- `byte_at` answers the byte at a place.
 use borrow.Author.Needs.{needs}
 use Rattle.fields.specs.Fields.{byteP}
 use Rattle.fields.proofs.count.byte_at.Statement.{statement}

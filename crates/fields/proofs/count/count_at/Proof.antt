@@ -1,5 +1,4 @@
 -- A count is read as it is defined: each answer is one case of the definition.
--- Assumes nothing.
 use native.Mathlib.Omega.{arith}
 use mathlib.Core.Path.{sym}
 use borrow.Author.Needs.{needs}

@@ -1,5 +1,5 @@
 -- Up to eight bytes make the number that is defined. The loop's invariant: the value is the number of the bytes passed, and fits them.
--- The measure is the number of bytes left. Assumes nothing.
+-- The measure is the number of bytes left.
 use Prim.Native.Nat.{ℕ, _-_, _*_, _^_, _<_, _≤_}
 use native.Mathlib.Omega.{arith}
 use mathlib.Core.Path.{_≡_, _∙_}

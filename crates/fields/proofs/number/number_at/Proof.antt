@@ -1,5 +1,4 @@
 -- A number is read as it is defined: its bytes must all be there, and the slice that holds them is the one that is summed.
--- Assumes nothing.
 use native.Mathlib.Omega.{arith}
 use mathlib.Core.Path.{sym}
 use borrow.Author.Needs.{needs}

@@ -1,5 +1,4 @@
 -- A span's bytes are handed out as they are defined: none where the span is turned or runs past the file.
--- Assumes nothing.
 use native.Mathlib.Omega.{arith}
 use mathlib.Core.Path.{sym}
 use borrow.Author.Needs.{needs}

@@ -1,5 +1,4 @@
 -- A string's span is read as it is defined: what the count answers decides, then whether the bytes are there.
--- Assumes nothing.
 use native.Mathlib.Omega.{arith}
 use mathlib.Core.Path.{_≡_, sym, ap, _∙_}
 use borrow.Author.Needs.{needs}

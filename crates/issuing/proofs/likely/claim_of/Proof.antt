@@ -1,4 +1,4 @@
--- `claim_of` puts together what the subject's flags, key ids and issuer name are. Assumes nothing.
+-- `claim_of` puts together what the subject's flags, key ids and issuer name are.
 use borrow.Author.Needs.{needs}
 use Rattle.issuing.specs.Records.{claimOf}
 use Rattle.issuing.proofs.likely.claim_of.Statement.{statement}

@@ -1,4 +1,4 @@
--- `fits` asks the key identifiers first, then the names. Assumes nothing.
+-- `fits` asks the key identifiers first, then the names.
 use borrow.Author.Needs.{needs}
 use mathlib.Core.Path.{sym, _∙_}
 use Rattle.issuing.proofs.Fits.{likely-names, likely-none}

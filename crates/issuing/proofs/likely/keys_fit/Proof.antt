@@ -1,4 +1,4 @@
--- `keys_fit` hands over the parts that the claim and the issuer's record say, each by its flag. Assumes nothing.
+-- `keys_fit` hands over the parts that the claim and the issuer's record say, each by its flag.
 use borrow.Author.Needs.{needs}
 use Rattle.issuing.proofs.Fits.{keys-fit}
 use Rattle.issuing.proofs.likely.keys_fit.Statement.{statement}

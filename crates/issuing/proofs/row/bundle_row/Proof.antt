@@ -1,4 +1,4 @@
--- `bundle_row` asks each bundle place once. The invariant: for a certificate whose claim it is, the row of those below i. Assumes nothing.
+-- `bundle_row` asks each bundle place once. The invariant: for a certificate whose claim it is, the row of those below i.
 use borrow.Author.Needs.{needs}
 use Prim.Native.Nat.{_-_}
 use mathlib.Core.Logic.{⊎-elim}

@@ -1,4 +1,4 @@
--- `root_row` asks each root once. The invariant: for a certificate whose claim it is, the row of those below the one at hand. Assumes nothing.
+-- `root_row` asks each root once. The invariant: for a certificate whose claim it is, the row of those below the one at hand.
 use borrow.Author.Needs.{needs}
 use Prim.Native.Nat.{_-_}
 use mathlib.Core.Logic.{⊎-elim}

@@ -1,5 +1,5 @@
 -- `agrees` meets its contract. The loop's invariant: net and address agree under the mask where what is left of them does.
--- The measure is what is left. Assumes nothing.
+-- The measure is what is left.
 use Prim.Native.Nat.{_-_}
 use mathlib.Core.Path.{_≡_, refl, sym, _∙_}
 use lib.ListN.{length, drop}

@@ -1,4 +1,4 @@
--- `ip_addr_in_range` meets its contract: no kind where lengths do not fit, and else what `agrees` ensures. Assumes nothing.
+-- `ip_addr_in_range` meets its contract: no kind where lengths do not fit, and else what `agrees` ensures.
 use mathlib.Core.Path.{sym, _∙_}
 use mathlib.Core.Logic.{inl, inr, ⊎-elim}
 use native.Mathlib.Omega.{arith}

@@ -1,4 +1,4 @@
--- `check_auth_key_id` meets its contract, by what `equal` ensures of the key ids and of the serials. Assumes nothing.
+-- `check_auth_key_id` meets its contract, by what `equal` ensures of the key ids and of the serials.
 use mathlib.Core.Path.{_≡_, refl, sym, _∙_}
 use mathlib.Core.Bool.{true}
 use mathlib.Core.Logic.{⊎-elim}

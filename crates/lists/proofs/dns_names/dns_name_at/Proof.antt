@@ -1,4 +1,4 @@
--- `dns_name_at` answers the span of a string of 1 to 253 bytes. Assumes nothing.
+-- `dns_name_at` answers the span of a string of 1 to 253 bytes.
 use borrow.Author.Needs.{needs}
 use Rattle.lists.proofs.dns_names.dns_name_at.Statement.{statement}
 use Rattle.lists.proofs.dns_names.dns_name_at.Tie as tie

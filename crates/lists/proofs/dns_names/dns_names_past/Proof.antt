@@ -1,4 +1,4 @@
--- `dns_names_past` ends where so many DNS names end. The invariant: what is left to pass ends where all of them do. Assumes nothing.
+-- `dns_names_past` ends where so many DNS names end. The invariant: what is left to pass ends where all of them do.
 use borrow.Author.Needs.{needs}
 use mathlib.Core.Path.{refl, sym, ap, _∙_}
 use Rattle.fields.specs.Answers.{passing, spanned}

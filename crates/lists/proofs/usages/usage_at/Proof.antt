@@ -1,4 +1,4 @@
--- `usage_at` answers a byte of 0 to 7, and judges it when it is read. Assumes nothing.
+-- `usage_at` answers a byte of 0 to 7, and judges it when it is read.
 use borrow.Author.Tests.{le-leb, lt-leb}
 use borrow.Author.Needs.{needs}
 use mathlib.Core.List.{List}

@@ -1,4 +1,4 @@
--- `usages_past` ends where so many usages end. The invariant: what is left to pass ends where all of them do. Assumes nothing.
+-- `usages_past` ends where so many usages end. The invariant: what is left to pass ends where all of them do.
 use borrow.Author.Needs.{needs}
 use mathlib.Core.Path.{refl, sym, ap, _∙_}
 use Rattle.fields.specs.Answers.{counted, passing}

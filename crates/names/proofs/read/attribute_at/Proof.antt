@@ -1,4 +1,4 @@
--- `attribute_at` answers the places of the OID and the value, or the first fault: one string after the other. Assumes nothing.
+-- `attribute_at` answers the places of the OID and the value, or the first fault: one string after the other.
 use Prim.Native.Nat.{ℕ}
 use mathlib.Core.List.{List}
 use mathlib.Core.Path.{_≡_, sym, ap, _∙_}

@@ -1,4 +1,4 @@
--- `attributes_at` ends where so many attributes end. The invariant: what is left to pass ends where all of them do. Assumes nothing.
+-- `attributes_at` ends where so many attributes end. The invariant: what is left to pass ends where all of them do.
 use borrow.Author.Needs.{needs}
 use mathlib.Core.Path.{_≡_, refl, sym, _∙_}
 use Rattle.fields.specs.Fields.{many}

@@ -1,4 +1,4 @@
--- `name_at` ends where the RDNs end that its count announces. Assumes nothing.
+-- `name_at` ends where the RDNs end that its count announces.
 use mathlib.Core.Path.{sym, ap, _∙_}
 use Rattle.names.specs.Names.{nameP}
 use Rattle.names.specs.Answers.{nameBegun}

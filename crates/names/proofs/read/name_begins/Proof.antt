@@ -1,4 +1,4 @@
--- `name_begins` answers the count byte, within the type's own limits. Assumes nothing.
+-- `name_begins` answers the count byte, within the type's own limits.
 use mathlib.Core.Path.{sym, ap, _∙_}
 use Rattle.fields.specs.Answers.{counted}
 use borrow.Author.Needs.{needs}

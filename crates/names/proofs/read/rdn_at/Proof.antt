@@ -1,4 +1,4 @@
--- `rdn_at` ends where the attributes end that its count announces. Assumes nothing.
+-- `rdn_at` ends where the attributes end that its count announces.
 use mathlib.Core.Path.{sym, ap, _∙_}
 use Rattle.names.specs.Names.{rdnP}
 use Rattle.names.specs.Answers.{rdnBegun}

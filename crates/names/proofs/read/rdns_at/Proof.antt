@@ -1,4 +1,4 @@
--- `rdns_at` ends where so many RDNs end. The invariant: what is left to pass ends where all of them do. Assumes nothing.
+-- `rdns_at` ends where so many RDNs end. The invariant: what is left to pass ends where all of them do.
 use borrow.Author.Needs.{needs}
 use mathlib.Core.Path.{_≡_, refl, sym, ap, _∙_}
 use Rattle.fields.specs.Fields.{many}

@@ -1,4 +1,4 @@
--- `whole_attribute` judges an argument through: its two strings, then bytes left over. Assumes nothing.
+-- `whole_attribute` judges an argument through: its two strings, then bytes left over.
 use mathlib.Core.Path.{sym, ap}
 use borrow.Author.Needs.{needs}
 use Rattle.fields.specs.Answers.{passing}

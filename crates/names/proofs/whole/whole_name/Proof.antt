@@ -1,4 +1,4 @@
--- `whole_name` judges an argument through: its RDNs, then bytes left over. Assumes nothing.
+-- `whole_name` judges an argument through: its RDNs, then bytes left over.
 use mathlib.Core.Path.{sym, ap, _∙_}
 use borrow.Author.Needs.{needs}
 use Rattle.fields.specs.Answers.{passed}

@@ -1,4 +1,4 @@
--- `whole_rdn` judges an argument through: its attributes, then bytes left over. Assumes nothing.
+-- `whole_rdn` judges an argument through: its attributes, then bytes left over.
 use mathlib.Core.Path.{sym, ap, _∙_}
 use borrow.Author.Needs.{needs}
 use Rattle.fields.specs.Answers.{passed}

@@ -1,4 +1,4 @@
--- `between_sound` answers what is asked of a certificate between leaf and root. Assumes nothing.
+-- `between_sound` answers what is asked of a certificate between leaf and root.
 use borrow.Author.Needs.{needs}
 use mathlib.Core.Path.{sym, _∙_}
 use Rattle.policy.proofs.Once.{between-undated, between-unhandled, between-no-authority, between-asked}

@@ -1,4 +1,4 @@
--- `judge` answers the facts of a card: its parts are what the functions below promise. Assumes nothing.
+-- `judge` answers the facts of a card: its parts are what the functions below promise.
 use Rattle.policy.proofs.Once.{judged-is}
 use borrow.Author.Needs.{needs}
 use Rattle.policy.proofs.judged.judge.Statement.{statement}

@@ -1,4 +1,4 @@
--- `leaf_serves` asks the usages, then the host. Assumes nothing.
+-- `leaf_serves` asks the usages, then the host.
 use borrow.Author.Needs.{needs}
 use mathlib.Core.Path.{sym, _∙_}
 use Rattle.policy.proofs.judged.leaf_serves.Statement.{statement}

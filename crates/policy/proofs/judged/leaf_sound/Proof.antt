@@ -1,4 +1,4 @@
--- `leaf_sound` asks the leaf's date, form, extensions and lists in this order, and stops at the first no. Assumes nothing.
+-- `leaf_sound` asks the leaf's date, form, extensions and lists in this order, and stops at the first no.
 use borrow.Author.Needs.{needs}
 use mathlib.Core.Path.{sym, _∙_}
 use Rattle.record.proofs.Meaning.{own-head}

@@ -1,4 +1,4 @@
--- `leaves_in` answers the places that are sound as the leaf. The invariant: the row has those below i. Assumes nothing.
+-- `leaves_in` answers the places that are sound as the leaf. The invariant: the row has those below i.
 use native.Mathlib.Omega.{arith}
 use Prim.Native.Nat.{_-_, _<_, _≤_}
 use mathlib.Core.Logic.{⊎-elim}

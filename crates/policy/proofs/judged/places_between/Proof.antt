@@ -1,5 +1,5 @@
 -- `places_between` answers the places that may stand between leaf and root, and each place's limit. The invariant: the places below i are
--- judged. Assumes nothing.
+-- judged.
 use borrow.Author.Needs.{needs}
 use native.Mathlib.Omega.{arith}
 use Prim.Native.Nat.{_-_, _<_, _≤_}

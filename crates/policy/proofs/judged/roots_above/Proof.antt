@@ -1,5 +1,5 @@
 -- `roots_above` answers which of the roots that are asked for may stand above, and the limit of each of them, whatever the file is: the numbers are
--- in the records. The invariant: i is the lowest of the rest, and those before it are judged. The measure: i grows. Assumes nothing.
+-- in the records. The invariant: i is the lowest of the rest, and those before it are judged. The measure: i grows.
 use borrow.Author.Needs.{needs}
 use native.Mathlib.Omega.{arith}
 use Prim.Native.Nat.{_-_, _≤_}

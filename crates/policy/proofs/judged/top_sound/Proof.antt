@@ -1,4 +1,4 @@
--- `top_sound` answers what is asked of a root. Assumes nothing.
+-- `top_sound` answers what is asked of a root.
 use borrow.Author.Needs.{needs}
 use mathlib.Core.Path.{sym, _∙_}
 use Rattle.policy.proofs.Once.{top-undated, top-unhandled, top-asked}

@@ -1,5 +1,5 @@
 -- `enter` puts each of a row in the row of its limit. The invariant: i is the lowest of the rest, and those that are not among the rest are
--- in their row. The measure: i grows. Assumes nothing.
+-- in their row. The measure: i grows.
 use native.Mathlib.Omega.{arith}
 use Prim.Native.Nat.{_-_, _<_, min}
 use mathlib.Core.Path.{_≡_, sym, ap, _∙_}

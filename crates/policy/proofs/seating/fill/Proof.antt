@@ -1,4 +1,4 @@
--- `fill` puts each of a row in the row of its limit and hands the rows on. Assumes nothing.
+-- `fill` puts each of a row in the row of its limit and hands the rows on.
 use borrow.Author.Needs.{needs}
 use Rattle.policy.proofs.seating.fill.Statement.{statement}
 use Rattle.policy.proofs.seating.fill.Tie as tie

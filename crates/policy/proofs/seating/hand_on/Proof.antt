@@ -1,5 +1,4 @@
 -- `hand_on` puts those of each row in the row before it. The invariant: the rows from k on were handed what is past them. The measure: k.
--- Assumes nothing.
 use mathlib.Core.Path.{sym, _∙_}
 use Rattle.policy.proofs.Filling.{Handing, handing-starts, handing-turn, handing-ends}
 use borrow.Author.Needs.{needs}

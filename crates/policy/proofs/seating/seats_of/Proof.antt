@@ -1,4 +1,4 @@
--- `seats_of` fills the seats of the places and those of the roots, and puts the leaves after them. Assumes nothing.
+-- `seats_of` fills the seats of the places and those of the roots, and puts the leaves after them.
 use native.Mathlib.Omega.{arith}
 use mathlib.Core.Path.{refl}
 use lib.ListN.{length-map, length-append}

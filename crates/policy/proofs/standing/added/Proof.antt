@@ -1,4 +1,4 @@
--- `added` meets its equation. Assumes nothing.
+-- `added` meets its equation.
 use native.Mathlib.Omega.{arith}
 use mathlib.Core.Path.{_∙_}
 use Rattle.policy.proofs.Adding.{added-full, added-is}

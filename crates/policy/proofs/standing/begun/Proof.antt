@@ -1,4 +1,4 @@
--- `begun` meets its equation. Assumes nothing.
+-- `begun` meets its equation.
 use Rattle.policy.proofs.Adding.{begun-is}
 use borrow.Author.Needs.{needs}
 use Rattle.policy.proofs.standing.begun.Statement.{statement}

@@ -1,4 +1,4 @@
--- `over` meets its equation, whether the place may stand there or not. Assumes nothing.
+-- `over` meets its equation, whether the place may stand there or not.
 use mathlib.Core.Path.{sym, _∙_}
 use Rattle.policy.proofs.Adding.{over-stands, over-lacks}
 use borrow.Author.Needs.{needs}

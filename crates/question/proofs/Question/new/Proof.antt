@@ -1,4 +1,4 @@
--- `Question::new` asks nothing. Assumes nothing.
+-- `Question::new` asks nothing.
 use borrow.Author.Needs.{needs}
 use mathlib.Core.Path.{ap}
 use Rattle.policy.specs.declared.judged.Judged.{Judged}

@@ -1,4 +1,4 @@
--- `extensions` are those behind the names, by the flags, or none. Assumes nothing.
+-- `extensions` are those behind the names, by the flags, or none.
 use borrow.Author.Needs.{needs}
 use mathlib.Core.Path.{sym, ap, _∙_}
 use Rattle.extensions.specs.Answers.{extended}

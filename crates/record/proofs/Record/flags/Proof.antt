@@ -1,4 +1,4 @@
--- `flags` are those of the head that stands where the record starts, or 0. Assumes nothing.
+-- `flags` are those of the head that stands where the record starts, or 0.
 use borrow.Author.Needs.{needs}
 use mathlib.Core.Path.{sym, ap, _∙_}
 use Rattle.fields.specs.Answers.{counted}

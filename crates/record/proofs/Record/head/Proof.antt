@@ -1,4 +1,4 @@
--- `head` is the head that stands where the record starts, or zeros. Assumes nothing.
+-- `head` is the head that stands where the record starts, or zeros.
 use borrow.Author.Needs.{needs}
 use mathlib.Core.Path.{sym, ap, _∙_}
 use Rattle.record.specs.Answers.{headed}

@@ -1,4 +1,4 @@
--- `key_ids` are those behind the names, by the flags, or nowhere. Assumes nothing.
+-- `key_ids` are those behind the names, by the flags, or nowhere.
 use borrow.Author.Needs.{needs}
 use mathlib.Core.Path.{sym, ap, _∙_}
 use Rattle.extensions.specs.Answers.{identified}

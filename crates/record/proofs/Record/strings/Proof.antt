@@ -1,4 +1,4 @@
--- `strings` are those behind the head, or nowhere. Assumes nothing.
+-- `strings` are those behind the head, or nowhere.
 use borrow.Author.Needs.{needs}
 use Prim.Native.Nat.{ℕ, _+_}
 use mathlib.Core.List.{List}

@@ -1,4 +1,4 @@
--- `dates_at` answers two numbers one after the other, or the first fault. Assumes nothing.
+-- `dates_at` answers two numbers one after the other, or the first fault.
 use mathlib.Core.Path.{sym, ap, _∙_}
 use Rattle.fields.specs.Answers.{numbered}
 use Rattle.record.specs.Record.{datesP}

@@ -1,5 +1,4 @@
 -- `flags_at` answers version and flags, or the first fault: two bytes one after the other, and then the pairs in their order.
--- Assumes nothing.
 use mathlib.Core.Path.{sym, ap, _∙_}
 use Rattle.fields.specs.Answers.{counted}
 use Rattle.record.specs.Certificate.{flagsP}

@@ -1,4 +1,4 @@
--- `flags_past` answers the flags where the dates are there too, or the first fault. Assumes nothing.
+-- `flags_past` answers the flags where the dates are there too, or the first fault.
 use mathlib.Core.Path.{sym, ap, _∙_}
 use Rattle.record.specs.Record.{headP}
 use Rattle.record.specs.Answers.{opened, dated}

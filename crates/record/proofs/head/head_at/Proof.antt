@@ -1,4 +1,4 @@
--- `head_at` answers version and flags and then the dates, or the first fault. Assumes nothing.
+-- `head_at` answers version and flags and then the dates, or the first fault.
 use mathlib.Core.Path.{sym, ap, _∙_}
 use Rattle.record.specs.Record.{headP}
 use Rattle.record.specs.Answers.{opened, dated}

@@ -1,4 +1,4 @@
--- `lacks` answers by one flag, and then by the other. Assumes nothing.
+-- `lacks` answers by one flag, and then by the other.
 use mathlib.Core.Path.{sym, ap, _∙_}
 use mathlib.Core.Bool.{not}
 use borrow.Author.Needs.{needs}

@@ -1,4 +1,4 @@
--- `names_at` answers the places of two names one after the other, or the first fault. Assumes nothing.
+-- `names_at` answers the places of two names one after the other, or the first fault.
 use mathlib.Core.Path.{sym, ap, _∙_}
 use Rattle.fields.specs.Answers.{passed}
 use Rattle.fields.proofs.Ends.{passing-stops, passing-got}

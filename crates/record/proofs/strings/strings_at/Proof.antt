@@ -1,4 +1,4 @@
--- `strings_at` answers the places of three strings one after the other, or the first fault. Assumes nothing.
+-- `strings_at` answers the places of three strings one after the other, or the first fault.
 use Prim.Native.Nat.{ℕ}
 use mathlib.Core.List.{List}
 use mathlib.Core.Path.{_≡_, sym, ap, _∙_}

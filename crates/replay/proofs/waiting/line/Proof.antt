@@ -1,4 +1,4 @@
--- `replay::waiting::line` writes as many bytes as the line has, which are no more than it holds. Assumes nothing.
+-- `replay::waiting::line` writes as many bytes as the line has, which are no more than it holds.
 use Rattle.report.proofs.Roomy.{shown-counts}
 use borrow.Author.Needs.{needs}
 use Rattle.replay.proofs.waiting.line.Statement.{statement}

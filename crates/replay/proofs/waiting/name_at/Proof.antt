@@ -1,4 +1,4 @@
--- `replay::waiting::name_at` meets its contract. The loop's invariant: `i` is at most the length. Assumes nothing.
+-- `replay::waiting::name_at` meets its contract. The loop's invariant: `i` is at most the length.
 use borrow.Author.Needs.{needs}
 use Prim.Native.Nat.{_≤_, _-_}
 use lib.ListN.{length}

@@ -1,4 +1,4 @@
--- `replay::waiting::number` ends, and its number stays below ten million. Assumes nothing.
+-- `replay::waiting::number` ends, and its number stays below ten million.
 use borrow.Author.Needs.{needs}
 use native.Mathlib.Omega.{arith}
 use borrow.Author.Tests.{ltb-true}

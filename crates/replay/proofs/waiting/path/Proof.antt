@@ -1,4 +1,4 @@
--- `replay::waiting::path` ends: each turn leaves one byte fewer. Assumes nothing.
+-- `replay::waiting::path` ends: each turn leaves one byte fewer.
 use borrow.Author.Needs.{needs}
 use Prim.Native.Nat.{_-_}
 use lib.ListN.{length}

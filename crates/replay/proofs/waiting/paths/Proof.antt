@@ -1,4 +1,4 @@
--- `replay::waiting::paths` ends: each turn leaves one slot fewer, and `at` stays within the room. Assumes nothing.
+-- `replay::waiting::paths` ends: each turn leaves one slot fewer, and `at` stays within the room.
 use borrow.Author.Needs.{needs}
 use Prim.Native.Nat.{_≤_, _-_}
 use lib.ListN.{length}

@@ -1,4 +1,4 @@
--- `reply_to` writes what the search answers in a room that is always enough. Assumes nothing.
+-- `reply_to` writes what the search answers in a room that is always enough.
 use borrow.Author.Needs.{needs}
 use Prim.Native.Nat.{ℕ}
 use lib.ListN.{replicate, length-replicate}

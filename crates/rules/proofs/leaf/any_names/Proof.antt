@@ -1,6 +1,6 @@
 -- `any_names` answers whether one of n DNS names matches the host, both lowered. The loop's invariant: one of all matches where one of
 -- those that are left does. The measure is how many are left. `a` is the place after a name was read, `n` where it was found, `m` after it
--- was matched. Assumes nothing.
+-- was matched.
 use mathlib.Core.Path.{refl, sym, ap, _∙_}
 use borrow.Author.Needs.{needs}
 use Rattle.fields.specs.Answers.{spanned}

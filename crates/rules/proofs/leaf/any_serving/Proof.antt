@@ -1,5 +1,5 @@
 -- `any_serving` answers whether one of n usages is for servers. The loop's invariant: one of all passes where one of those that are
--- left does. The measure is how many are left. `a` is the place after a usage was read, `u` where it was found. Assumes nothing.
+-- left does. The measure is how many are left. `a` is the place after a usage was read, `u` where it was found.
 use mathlib.Core.Path.{refl, sym, ap, _∙_}
 use borrow.Author.Needs.{needs}
 use Rattle.fields.specs.Answers.{counted}

@@ -1,4 +1,4 @@
--- `for_host` answers where no host is asked, and else by the DNS names. Assumes nothing.
+-- `for_host` answers where no host is asked, and else by the DNS names.
 use mathlib.Core.Path.{_∙_}
 use borrow.Author.Tests.{eq-eqb, ne-eqb}
 use borrow.Author.Needs.{needs}

@@ -1,4 +1,4 @@
--- `for_servers` answers for a list of no usages, and else by its usages. Assumes nothing.
+-- `for_servers` answers for a list of no usages, and else by its usages.
 use mathlib.Core.Path.{_∙_}
 use borrow.Author.Tests.{eq-eqb, ne-eqb}
 use borrow.Author.Needs.{needs}

@@ -1,4 +1,4 @@
--- `serving` answers whether a usage is 0 or 6. Assumes nothing.
+-- `serving` answers whether a usage is 0 or 6.
 use borrow.Author.Tests.{eq-eqb, ne-eqb}
 use Rattle.rules.specs.Rules.{serving}
 use Rattle.rules.proofs.leaf.serving.Statement.{statement}

@@ -1,4 +1,4 @@
--- `authority` answers whether this is a CA, and may sign where key usage is present. Assumes nothing.
+-- `authority` answers whether this is a CA, and may sign where key usage is present.
 use mathlib.Core.Bool.{true, false}
 use mathlib.Core.Path.{_≡_, sym, _∙_}
 use borrow.Author.Needs.{needs}

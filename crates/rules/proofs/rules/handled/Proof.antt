@@ -1,4 +1,4 @@
--- `handled` answers whether no critical extension is unhandled. Assumes nothing.
+-- `handled` answers whether no critical extension is unhandled.
 use mathlib.Core.Path.{ap}
 use mathlib.Core.Bool.{not}
 use borrow.Author.Needs.{needs}

@@ -1,4 +1,4 @@
--- `in_date` answers whether a time lies between a certificate's two dates, by the record's numbers. Assumes nothing.
+-- `in_date` answers whether a time lies between a certificate's two dates, by the record's numbers.
 use borrow.Author.Tests.{le-leb, lt-leb}
 use Rattle.record.specs.Parts.{certificateBy}
 use Rattle.rules.specs.Rules.{inDate}

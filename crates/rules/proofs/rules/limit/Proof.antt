@@ -1,4 +1,4 @@
--- `limit` answers a certificate's path length, or no limit. Assumes nothing.
+-- `limit` answers a certificate's path length, or no limit.
 use mathlib.Core.Path.{sym, _∙_}
 use native.Mathlib.Omega.{arith}
 use borrow.Author.Needs.{needs}

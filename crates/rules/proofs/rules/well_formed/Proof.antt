@@ -1,4 +1,4 @@
--- `well_formed` answers whether the version is 2 and the two algorithms are the same bytes. Assumes nothing.
+-- `well_formed` answers whether the version is 2 and the two algorithms are the same bytes.
 use mathlib.Core.Path.{_∙_}
 use borrow.Author.Tests.{eq-eqb, ne-eqb}
 use borrow.Author.Needs.{needs}

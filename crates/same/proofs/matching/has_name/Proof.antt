@@ -1,4 +1,4 @@
--- `has_name` finds an attribute among those that stand. The invariant: whether what is left has it is whether the whole RDN has it. Assumes nothing.
+-- `has_name` finds an attribute among those that stand. The invariant: whether what is left has it is whether the whole RDN has it.
 use mathlib.Core.Path.{_≡_, refl, sym, _∙_}
 use borrow.Author.Needs.{needs}
 use Rattle.names.specs.Names.{attrP}

@@ -1,5 +1,4 @@
 -- `has_names` looks for each attribute of one RDN in the other. The invariant: what is left is had whole exactly where all is.
--- Assumes nothing.
 use mathlib.Core.Path.{_≡_, refl, sym, _∙_}
 use borrow.Author.Needs.{needs}
 use borrow.Author.Tests.{not-true, not-false}

@@ -1,5 +1,4 @@
 -- `matched_walk` walks past two RDNs that can be read, where each attribute of the first has a match in the second.
--- Assumes nothing.
 use mathlib.Core.Path.{sym, ap, _∙_}
 use Rattle.fields.specs.Answers.{passed}
 use Rattle.fields.proofs.Ends.{passing-stops}

@@ -1,4 +1,4 @@
--- `attr_walk` ends where the two attributes end, if they can be read and are the same. Assumes nothing.
+-- `attr_walk` ends where the two attributes end, if they can be read and are the same.
 use mathlib.Core.Path.{sym, _∙_}
 use denote.Ref.{now}
 use Rattle.names.proofs.Attributes.{AttrRead, attr-read, attr-stops}

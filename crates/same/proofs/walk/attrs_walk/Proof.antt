@@ -1,4 +1,4 @@
--- `attrs_walk` walks two rows of attributes. The invariant: the walk of what is left is the walk of all. Assumes nothing.
+-- `attrs_walk` walks two rows of attributes. The invariant: the walk of what is left is the walk of all.
 use borrow.Author.Needs.{needs}
 use mathlib.Core.Path.{_≡_, refl, sym, _∙_}
 use Rattle.fields.specs.Fields.{many}

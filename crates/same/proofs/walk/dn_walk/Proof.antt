@@ -1,4 +1,4 @@
--- `dn_walk` walks the RDNs of two names, which differ where their counts do. Assumes nothing.
+-- `dn_walk` walks the RDNs of two names, which differ where their counts do.
 use mathlib.Core.Path.{sym, ap, _∙_}
 use lib.Dec.{eqb}
 use borrow.Author.Tests.{ne-eqb}

@@ -1,4 +1,4 @@
--- `rdn_walk` walks the attributes of two RDNs, which differ where their counts do. Assumes nothing.
+-- `rdn_walk` walks the attributes of two RDNs, which differ where their counts do.
 use mathlib.Core.Path.{sym, ap, _∙_}
 use lib.Dec.{eqb}
 use borrow.Author.Tests.{ne-eqb}

@@ -1,4 +1,4 @@
--- `rdns_walk` walks two rows of RDNs. The invariant: the walk of what is left is the walk of all. Assumes nothing.
+-- `rdns_walk` walks two rows of RDNs. The invariant: the walk of what is left is the walk of all.
 use borrow.Author.Needs.{needs}
 use mathlib.Core.Path.{_≡_, refl, sym, _∙_}
 use Rattle.fields.specs.Fields.{many}

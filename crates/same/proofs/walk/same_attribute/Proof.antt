@@ -1,5 +1,4 @@
 -- `same_attribute` compares the OIDs first, then the values as they stand, then as the flag says, each by its bytes in its file.
--- Assumes nothing.
 use mathlib.Core.Path.{_≡_, _∙_}
 use denote.Ref.{now}
 use borrow.Author.Tests.{not-true, not-false}

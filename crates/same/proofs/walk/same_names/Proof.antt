@@ -1,4 +1,4 @@
--- `same_names` says yes where the bytes are the same, or where the walk of the two names comes through. Assumes nothing.
+-- `same_names` says yes where the bytes are the same, or where the walk of the two names comes through.
 use borrow.Author.Needs.{needs}
 use mathlib.Core.Path.{sym, ap, _∙_}
 use Rattle.names.specs.Names.{nameP}

@@ -1,4 +1,4 @@
--- `same_normal` compares normal forms: each value is at most as long as the room that it is normalised in. Assumes nothing.
+-- `same_normal` compares normal forms: each value is at most as long as the room that it is normalised in.
 use native.Mathlib.Omega.{arith}
 use mathlib.Core.Path.{_∙_}
 use lib.ListN.{length-take}

@@ -1,4 +1,4 @@
--- `lay` meets its contract. After k turns the paths of the first k depths lie in the room. Assumes nothing.
+-- `lay` meets its contract. After k turns the paths of the first k depths lie in the room.
 use mathlib.Core.Path.{_≡_, refl, ap, _∙_, sym}
 use Prim.Native.Nat.{_+_, _*_, _-_, _≤_, _<_}
 use native.Mathlib.Omega.{arith}

@@ -1,4 +1,4 @@
--- `lay_row` meets its contract. After i turns the children by the row's places below i lie above slot m. Assumes nothing.
+-- `lay_row` meets its contract. After i turns the children by the row's places below i lie above slot m.
 use mathlib.Core.Path.{_≡_, refl, ap, _∙_, sym}
 use mathlib.Core.Logic.{⊎-elim}
 use mathlib.Core.Bool.{true}

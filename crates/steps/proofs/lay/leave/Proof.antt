@@ -1,4 +1,4 @@
--- `leave` lays what waits in the needed slots, and zeros above it. Assumes nothing.
+-- `leave` lays what waits in the needed slots, and zeros above it.
 use native.Mathlib.Omega.{arith}
 use Rattle.steps.proofs.Laid.{lying-cleared}
 use borrow.Author.Needs.{needs}

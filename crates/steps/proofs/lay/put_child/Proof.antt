@@ -1,4 +1,4 @@
--- `put_child` puts a path's child in a slot. Assumes nothing.
+-- `put_child` puts a path's child in a slot.
 use borrow.Author.Needs.{needs}
 use mathlib.Core.Path.{_≡_}
 use Prim.Native.Nat.{_+_, _*_, _<_}

@@ -1,4 +1,4 @@
--- `zero_bytes` meets its contract. Assumes nothing.
+-- `zero_bytes` meets its contract.
 use mathlib.Core.Path.{_≡_, refl, ap, _∙_}
 use mathlib.Core.List.{List}
 use Prim.Native.Nat.{ℕ, _-_, _≤_, _<_}

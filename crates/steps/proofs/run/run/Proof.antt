@@ -1,4 +1,4 @@
--- `run` stops where the walk from the leaf alone does, and what that settles by how paths stand is settled by what was judged. Assumes nothing.
+-- `run` stops where the walk from the leaf alone does, and what that settles by how paths stand is settled by what was judged.
 use Rattle.steps.proofs.Judging.{settled}
 use borrow.Author.Needs.{needs}
 use Rattle.steps.proofs.run.run.Statement.{statement}

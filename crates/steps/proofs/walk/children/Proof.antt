@@ -1,4 +1,4 @@
--- `children` meets its equation. Assumes nothing.
+-- `children` meets its equation.
 use mathlib.Core.Path.{ap, _∙_}
 use Rattle.rows.specs.Rows.{left, common}
 use borrow.Author.Needs.{needs}

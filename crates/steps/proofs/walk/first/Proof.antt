@@ -1,4 +1,4 @@
--- `first` begins with the leaf alone. Assumes nothing.
+-- `first` begins with the leaf alone.
 use mathlib.Core.Path.{refl}
 use Rattle.steps.proofs.Levels.{same-level, first-ready, first-stack}
 use borrow.Author.Needs.{needs}

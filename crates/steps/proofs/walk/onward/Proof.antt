@@ -1,4 +1,4 @@
--- `onward` meets its equation. Assumes nothing.
+-- `onward` meets its equation.
 use mathlib.Core.Path.{ap, _∙_}
 use Rattle.rows.specs.Rows.{left}
 use Rattle.steps.specs.Parts.{onward}

@@ -1,4 +1,4 @@
--- `roots_over` meets its equation. Assumes nothing.
+-- `roots_over` meets its equation.
 use mathlib.Core.Path.{ap, _∙_}
 use Rattle.rows.specs.Rows.{common}
 use borrow.Author.Needs.{needs}

@@ -1,5 +1,5 @@
 -- `walk` stops as its contract says, from any state. The invariant: the state is where the steps so far lead from the stack that it began
--- with, and none of the paths that they took qualifies. Assumes nothing.
+-- with, and none of the paths that they took qualifies.
 use borrow.Author.Needs.{needs}
 use native.Mathlib.Omega.{arith}
 use Prim.Native.Nat.{ℕ, _+_, _*_, _-_, _≤_, _<_, zero-le}

@@ -1,4 +1,4 @@
--- `is_subtree_of` answers the first fault of the first bad argument, else what is found of the two names. Assumes nothing.
+-- `is_subtree_of` answers the first fault of the first bad argument, else what is found of the two names.
 use mathlib.Core.Path.{sym, _∙_}
 use Rattle.names.specs.Names.{nameP}
 use Rattle.names.proofs.Judged.{holds}

@@ -1,4 +1,4 @@
--- `is_subtree_rdn` answers the first fault of the first bad argument, else what the walk of the two finds. Assumes nothing.
+-- `is_subtree_rdn` answers the first fault of the first bad argument, else what the walk of the two finds.
 use mathlib.Core.Path.{_∙_}
 use borrow.Author.Needs.{needs}
 use Rattle.names.proofs.Judged.{holds}

@@ -1,5 +1,5 @@
 -- `rdn_has_name` answers the first fault of the first bad argument, else whether the RDN has the attribute; the arm for an RDN that can
--- no longer be bad is never taken. Assumes nothing.
+-- no longer be bad is never taken.
 use mathlib.Core.Path.{sym, ap, _∙_}
 use Rattle.names.specs.Names.{attrP, rdnP}
 use Rattle.names.specs.Answers.{rdnBegun}

@@ -1,4 +1,4 @@
--- `subtree` walks the first name's RDNs beside as many of the second's: what the second has past them does not count. Assumes nothing.
+-- `subtree` walks the first name's RDNs beside as many of the second's: what the second has past them does not count.
 use mathlib.Core.Path.{sym, ap, _∙_}
 use lib.Dec.{leb}
 use borrow.Author.Tests.{lt-leb}

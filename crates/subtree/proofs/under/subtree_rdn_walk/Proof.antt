@@ -1,4 +1,4 @@
--- `subtree_rdn_walk` walks past two RDNs where the first has no more attributes and each has a match in the second. Assumes nothing.
+-- `subtree_rdn_walk` walks past two RDNs where the first has no more attributes and each has a match in the second.
 use mathlib.Core.Path.{sym, ap, _∙_}
 use lib.Dec.{leb}
 use borrow.Author.Tests.{le-leb, lt-leb}

@@ -1,4 +1,4 @@
--- `subtree_rdns_walk` walks two rows of RDNs. The invariant: the walk of what is left is the walk of all. Assumes nothing.
+-- `subtree_rdns_walk` walks two rows of RDNs. The invariant: the walk of what is left is the walk of all.
 use mathlib.Core.Path.{_≡_, refl, sym, _∙_}
 use borrow.Author.Needs.{needs}
 use Rattle.fields.specs.Fields.{many}

@@ -1,4 +1,4 @@
--- `Task::new` answers nothing asked. Assumes nothing.
+-- `Task::new` answers nothing asked.
 use borrow.Author.Needs.{needs}
 use mathlib.Core.Path.{ap}
 use Rattle.task.specs.declared.Host.{Host}

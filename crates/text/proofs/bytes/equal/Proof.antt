@@ -1,4 +1,4 @@
--- `equal` meets its contract, by that of `equal_lowering`: nothing is lowered. Assumes nothing.
+-- `equal` meets its contract, by that of `equal_lowering`: nothing is lowered.
 use borrow.Author.Needs.{needs}
 use Rattle.text.proofs.Lowering.{low-none}
 use Rattle.text.proofs.bytes.equal.Statement.{statement}

@@ -1,5 +1,5 @@
 -- `equal_lowering` meets its contract. The loop's invariant: the lengths agree, and the strings are the same where the bytes were alike
--- so far and what is left of them is the same. The measure is what is left. Assumes nothing.
+-- so far and what is left of them is the same. The measure is what is left.
 use Prim.Native.Nat.{_-_}
 use lib.ListN.{length}
 use denote.Ref.{now}

@@ -1,5 +1,5 @@
 -- `has_byte` meets its contract. The loop's invariant: the byte stands in the string where it stands in what is left of it.
--- The measure is what is left. Assumes nothing.
+-- The measure is what is left.
 use Prim.Native.Nat.{_-_}
 use mathlib.Core.Path.{_≡_, refl, sym, _∙_}
 use lib.ListN.{length, drop}

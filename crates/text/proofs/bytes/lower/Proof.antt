@@ -1,4 +1,4 @@
--- `lower` meets its contract: each test of the code decides one of the definition's. Assumes nothing.
+-- `lower` meets its contract: each test of the code decides one of the definition's.
 use mathlib.Core.Path.{sym}
 use native.Mathlib.Omega.{arith}
 use borrow.Author.Needs.{needs}

@@ -1,4 +1,4 @@
--- `lower_if` meets its contract, by that of `lower`. Assumes nothing.
+-- `lower_if` meets its contract, by that of `lower`.
 use mathlib.Core.Path.{_∙_}
 use borrow.Author.Needs.{needs}
 use Rattle.text.proofs.bytes.lower_if.Statement.{statement}

@@ -1,4 +1,4 @@
--- `starts_with` meets its contract, by that of `equal`. Assumes nothing.
+-- `starts_with` meets its contract, by that of `equal`.
 use mathlib.Core.Path.{sym, _∙_}
 use native.Mathlib.Omega.{arith}
 use lib.ListN.{length-take}

@@ -1,5 +1,5 @@
 -- `normalize_string` meets its contract. The loop's invariant is `State`, what is written so far and what is left to write;
--- the measure is what is left of the string. Assumes nothing.
+-- the measure is what is left of the string.
 use Prim.Native.Nat.{_-_}
 use mathlib.Core.Logic.{⊎-elim}
 use native.Mathlib.Omega.{arith}

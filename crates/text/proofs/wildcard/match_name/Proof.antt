@@ -1,4 +1,4 @@
--- `match_name` meets its contract, by that of `match_lowering`: nothing is lowered. Assumes nothing.
+-- `match_name` meets its contract, by that of `match_lowering`: nothing is lowered.
 use borrow.Author.Needs.{needs}
 use Rattle.text.proofs.Lowering.{low-none}
 use Rattle.text.proofs.wildcard.match_name.Statement.{statement}

@@ -1,4 +1,4 @@
--- `tray::lines::end_where` meets its contract. The loop's invariant: `i` is not before `from`, and at most the length. Assumes nothing.
+-- `tray::lines::end_where` meets its contract. The loop's invariant: `i` is not before `from`, and at most the length.
 use borrow.Author.Needs.{needs}
 use Prim.Native.Nat.{_≤_, _-_}
 use lib.ListN.{length}

@@ -1,5 +1,5 @@
 -- `tray::show::path` meets its contract. The loop's invariant: the bytes before `i` are the slot's, and the string that is written at the end has its
--- length. Assumes nothing.
+-- length.
 use borrow.Author.Needs.{needs}
 use Prim.Native.Nat.{_≤_, _-_}
 use mathlib.Core.Path.{_≡_}

@@ -1,4 +1,4 @@
--- `tray::show::paths` meets its contract. The loop's invariant: `at` is at most the length. Assumes nothing.
+-- `tray::show::paths` meets its contract. The loop's invariant: `at` is at most the length.
 use borrow.Author.Needs.{needs}
 use Prim.Native.Nat.{_≤_, _-_}
 use lib.ListN.{length}

@@ -1,4 +1,4 @@
--- `tray::words::again` meets its contract. The loop's invariant: `n` is at most the length of `out`, which keeps its own. Assumes nothing.
+-- `tray::words::again` meets its contract. The loop's invariant: `n` is at most the length of `out`, which keeps its own.
 use borrow.Author.Needs.{needs}
 use Prim.Native.Nat.{_≤_}
 use mathlib.Core.Path.{_≡_}

@@ -1,5 +1,5 @@
 -- `tray::words::card` meets its contract. The loop's invariant: `n` is at most the length of `out`, which keeps its own. The measure is what is left
--- of the text. Assumes nothing.
+-- of the text.
 use borrow.Author.Needs.{needs}
 use native.Mathlib.Omega.{arith}
 use Prim.Native.Nat.{_≤_, _+_, _-_}

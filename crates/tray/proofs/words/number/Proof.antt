@@ -1,5 +1,5 @@
 -- `tray::words::number` meets its contract. The loop's invariant: `i` is at most the length, and `n` is ten times a number below 10,000 and a
--- digit at most. Assumes nothing.
+-- digit at most.
 use borrow.Author.Needs.{needs}
 use native.Mathlib.Omega.{arith}
 use Prim.Native.Nat.{_≤_, _-_}

@@ -1,5 +1,5 @@
 -- `tray::words::pairs` meets its contract. The loop's invariant: `i` is the place of a second digit, `n` is at most the length of `out`, which keeps
--- its own. Assumes nothing.
+-- its own.
 use borrow.Author.Needs.{needs}
 use native.Mathlib.Omega.{arith}
 use Prim.Native.Nat.{_≤_, _-_, _+_}

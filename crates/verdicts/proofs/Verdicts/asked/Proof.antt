@@ -1,4 +1,4 @@
--- `asked` is the product that the paper asks, and it fits. Assumes nothing.
+-- `asked` is the product that the paper asks, and it fits.
 use Prim.Native.Nat.{_+_}
 use borrow.Author.Needs.{needs}
 use native.Mathlib.Omega.{arith}

@@ -1,4 +1,4 @@
--- `bundle_signed` is the verdict in the row, past those of the roots, of a certificate that is there. Assumes nothing.
+-- `bundle_signed` is the verdict in the row, past those of the roots, of a certificate that is there.
 use borrow.Author.Needs.{needs}
 use mathlib.Core.Path.{_∙_}
 use Rattle.verdicts.proofs.Columns.{no-bundled, by-bundled}

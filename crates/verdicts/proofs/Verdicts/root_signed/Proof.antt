@@ -1,4 +1,4 @@
--- `root_signed` is the verdict in the row of a root that is there. Assumes nothing.
+-- `root_signed` is the verdict in the row of a root that is there.
 use borrow.Author.Needs.{needs}
 use mathlib.Core.Path.{_∙_}
 use Rattle.verdicts.proofs.Columns.{no-root, by-root}

@@ -1,4 +1,4 @@
--- `Bundle::new` answers no certificates: every place holds the record of nothing but zeros. Assumes nothing.
+-- `Bundle::new` answers no certificates: every place holds the record of nothing but zeros.
 use borrow.Author.Needs.{needs}
 use mathlib.Core.Path.{refl, ap}
 use lib.ListN.{replicate}

@@ -1,4 +1,4 @@
--- `Roots::new` answers no roots: every place holds the record of nothing but zeros. Assumes nothing.
+-- `Roots::new` answers no roots: every place holds the record of nothing but zeros.
 use borrow.Author.Needs.{needs}
 use mathlib.Core.Path.{refl, ap}
 use lib.ListN.{replicate}

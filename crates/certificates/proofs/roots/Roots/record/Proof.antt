@@ -1,5 +1,5 @@
 -- `Roots::record` answers the record at a place below the count, and the one of nothing but zeros at any other place.
--- How many records there are is what holding the array tells (`good`). Assumes nothing.
+-- How many records there are is what holding the array tells (`good`).
 use borrow.Author.Needs.{needs}
 use mathlib.Core.Path.{_∙_}
 use lib.ListN.{length-map}

@@ -1,4 +1,4 @@
--- `Plain::of` says an answer in plain numbers: each field is what the function that makes it promises. Assumes nothing.
+-- `Plain::of` says an answer in plain numbers: each field is what the function that makes it promises.
 use borrow.Author.Needs.{needs}
 use Rattle.desk.specs.Plain.{plain}
 use Rattle.desk.proofs.plain.Plain.of.Statement.{statement}

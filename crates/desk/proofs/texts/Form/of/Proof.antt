@@ -1,4 +1,4 @@
--- `Form::of` says an answer of the normaliser in plain numbers. Assumes nothing.
+-- `Form::of` says an answer of the normaliser in plain numbers.
 use borrow.Author.Needs.{needs}
 use mathlib.Core.Path.{sym, ap}
 use Rattle.text.specs.Normalize.{formOf}

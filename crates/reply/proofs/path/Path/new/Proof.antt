@@ -1,4 +1,4 @@
--- `Path::new` is the path of no places. Assumes nothing.
+-- `Path::new` is the path of no places.
 use mathlib.Core.Path.{refl}
 use Rattle.reply.specs.Answer.{pathShown}
 use Rattle.reply.specs.Slots.{padded}

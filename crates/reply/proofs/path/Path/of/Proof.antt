@@ -1,4 +1,4 @@
--- `Path::of` is the path of the first places. After j turns the first j are in it. Assumes nothing.
+-- `Path::of` is the path of the first places. After j turns the first j are in it.
 use borrow.Author.Needs.{needs}
 use mathlib.Core.Path.{_≡_, refl, ap, _∙_}
 use mathlib.Core.List.{_++_, map}

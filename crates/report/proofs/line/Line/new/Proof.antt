@@ -1,4 +1,4 @@
--- `Line::new` is nothing but zeros. Assumes nothing.
+-- `Line::new` is nothing but zeros.
 use mathlib.Core.Path.{refl}
 use Rattle.report.specs.Lines.{lineShown}
 use Rattle.report.proofs.line.Line.new.Statement.{statement}

@@ -1,4 +1,4 @@
--- `Line::with` copies more bytes behind the line's. After j turns j of them stand there. Assumes nothing.
+-- `Line::with` copies more bytes behind the line's. After j turns j of them stand there.
 use borrow.Author.Needs.{needs}
 use mathlib.Core.Path.{_≡_, ap, _∙_}
 use Prim.Native.Nat.{_+_, _-_, _≤_, _<_}

@@ -1,4 +1,4 @@
--- `Line::with_number` writes a word and the digits that `io::decimal` gives. Assumes nothing.
+-- `Line::with_number` writes a word and the digits that `io::decimal` gives.
 use borrow.Author.Needs.{needs}
 use mathlib.Core.List.{_++_, append-assoc}
 use mathlib.Core.Path.{_≡_, ap, _∙_}

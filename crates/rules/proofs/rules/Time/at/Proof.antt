@@ -1,4 +1,4 @@
--- `at` holds the time that it is given. Assumes nothing.
+-- `at` holds the time that it is given.
 use mathlib.Core.Path.{refl}
 use Rattle.rules.specs.Rules.{at}
 use Rattle.rules.proofs.rules.Time.at.Statement.{statement}

@@ -1,15 +1,15 @@
--- `main` replies to the bytes that were read. Assumes nothing.
+-- `answer` replies to the bytes that were read, where reading did not fail.
 use borrow.Author.Needs.{needs}
 use mathlib.Core.List.{List}
 use mathlib.Core.Path.{_≡_}
 use Prim.Native.Nat.{ℕ}
 use native.Mathlib.Omega.{arith}
 use Rattle.io.specs.Counts.{Counts}
-use Rattle.terminal.specs.Ends.{Ends}
-use Rattle.terminal.specs.declared.input.Input.{Input}
-use Rattle.terminal.specs.declared.input.Input.the-variants.{Whole}
-use Rattle.terminal.proofs.main.Statement.{statement}
-use Rattle.terminal.proofs.main.Tie as tie
+use Rattle.window.specs.Ends.{Ends}
+use Rattle.window.specs.declared.input.Input.{Input}
+use Rattle.window.specs.declared.input.Input.the-variants.{Whole}
+use Rattle.window.proofs.answer.Statement.{statement}
+use Rattle.window.proofs.answer.Tie as tie
 
 large-buffer-requires : tie.Need-large-buffer-requires
 large-buffer-requires c κs = search needs
@@ -55,8 +55,8 @@ returns c = search needs
 returns-2 : tie.Need-returns-2
 returns-2 c = search needs
 
-pub main-spec : {M : Type 1} → statement M
-main-spec =
+pub answer-spec : {M : Type 1} → statement M
+answer-spec =
     tie.close
     (tie.spec
     large-buffer-requires

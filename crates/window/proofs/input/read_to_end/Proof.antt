@@ -1,12 +1,12 @@
--- `read_to_end` puts what it reads behind what it has, and goes on while a read gives some. The measure is the room left. Assumes nothing.
+-- `read_to_end` puts what it reads behind what it has, and goes on while a read gives some. The measure is the room left.
 use borrow.Author.Needs.{needs}
 use mathlib.Core.Path.{_≡_}
 use Prim.Native.Nat.{_-_, _≤_}
 use native.Mathlib.Omega.{arith}
 use lib.ListN.{length}
 use Rattle.io.proofs.Counting.{counts}
-use Rattle.terminal.proofs.input.read_to_end.Statement.{statement}
-use Rattle.terminal.proofs.input.read_to_end.Tie as tie
+use Rattle.window.proofs.input.read_to_end.Statement.{statement}
+use Rattle.window.proofs.input.read_to_end.Tie as tie
 
 abbrev Inv-loop : tie.InvT-loop
 Inv-loop fd buf₀ done₀ buf done = (done ≤ length buf₀) × (length buf ≡ length buf₀)

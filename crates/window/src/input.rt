@@ -1,5 +1,5 @@
 // Reading to the end.
-ghost use Rattle.terminal.specs.Ends.{Ends};
+ghost use Rattle.window.specs.Ends.{Ends};
 
 pub(crate) enum Input {
     // So many bytes: all that there are, or as many as there is room for.
