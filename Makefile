@@ -15,7 +15,7 @@ help:
 	@echo 'make all        proves the library where that has not been done, and builds it into target/lib'
 	@echo 'make install    installs header, archive, shared object and pkg-config file: PREFIX=$(PREFIX), DESTDIR=$(DESTDIR),'
 	@echo '                LIBDIR=$(LIBDIR), INCLUDEDIR=$(INCLUDEDIR)'
-	@echo 'make check      tests the header and runs the examples against the library, and holds the papers to the tree'
+	@echo 'make check      holds the header and the papers to the tree, and tests the library through its examples'
 
 install: all
 	$(INSTALL) -d "$(DESTDIR)$(INCLUDEDIR)" "$(DESTDIR)$(LIBDIR)/pkgconfig"
@@ -29,7 +29,8 @@ install: all
 	chmod 644 "$(DESTDIR)$(LIBDIR)/pkgconfig/savuneco.pc"
 
 check:
+	include/check
+	docs/check
 	examples/run
-	if [ -x docs/check ]; then docs/check; fi
 
 .PHONY: all help install check

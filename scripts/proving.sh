@@ -85,8 +85,8 @@ prove() { # WORDS...
 
 # Says how far the prover is until it ends.
 follow() {
-    told=0 began=$(date +%s)
-    spoke=$began
+    began=$(date +%s)
+    now=$began spoke=$began told=0
     while kill -0 "$child" 2>/dev/null; do
         sleep 1
         now=$(date +%s)
