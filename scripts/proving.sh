@@ -111,15 +111,10 @@ tell_crates() {
 
 # A proof that failed is one thing, and a prover that could not do its work another.
 not_proved() { # STATUS
+    grep '^rt: ' "$scratch/said" | grep -Ev ' proved \(|: its dependency ' >&2 || tail -n 5 "$scratch/said" >&2
     case $1 in
-    1 | 3)
-        grep '^rt: ' "$scratch/said" | grep -v ' proved (' >&2
-        die "$what is NOT PROVED; $home/target/log has what the prover said of each crate"
-        ;;
-    *)
-        tail -n 5 "$scratch/said" >&2
-        die "the prover failed with status $1, which says nothing of the proof"
-        ;;
+    1 | 3) die "$what is NOT PROVED; $home/target/log has what the prover said of each crate" ;;
+    *) die "the prover failed with status $1, which says nothing of the proof" ;;
     esac
 }
 
