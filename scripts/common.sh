@@ -100,6 +100,12 @@ attend() { # DOING WORDS...
     finish
 }
 
+# The same for one command of several in a row, which would be silent together: at a terminal each is told when it begins.
+step() { # DOING WORDS...
+    [ ! -t 2 ] || say "$1"
+    attend "$@"
+}
+
 # ---- at once, for every script
 
 # A closed descriptor would be given to the next file that is opened, so none is left closed.

@@ -45,7 +45,7 @@ make_native() { # FILE, CRATE.o
     mkdir -p "$(dirname "$1")"
     # on Arm clang remarks that it passes over the x86-64 that the module names as its processor
     # shellcheck disable=SC2086
-    attend "compiling $what" sh -c 'exec "$@" 2>"$0"' "$scratch/said" \
+    step "compiling $what" sh -c 'exec "$@" 2>"$0"' "$scratch/said" \
         "$kit_home/$chain/bin/clang" --target="$machine-unknown-linux-gnu" --no-default-config -Wno-override-module -O3 $layout \
         -fPIC -c -x ir "$scratch/module.bc" -o "$1" || { cat "$scratch/said" >&2; die "$what can't be compiled for $machine"; }
 }

@@ -6,25 +6,28 @@ need_kit() {
     kit=$(rt version 2>&1) || die "the Rattle kit does not work: $kit"
 }
 
-# One build at a time in a checkout. The prover inherits the lock, so that it lasts as long as either lives.
+# One build at a time in a checkout. The lock is on the checkout's folder, since target/ may be removed. The prover inherits it, so that it
+# lasts as long as either lives; target/builder has the number of the script that took it.
 lock() {
     [ -z "${locked-}" ] || return 0
     need flock setsid sha256sum
-    holder=$home/target/lock
-    mkdir -p "$home/target" 2>/dev/null && true 2>/dev/null 9>>"$holder" || die "$home/target can't be written, so that nothing can be built there"
-    exec 9>>"$holder"
+    builder=$home/target/builder
+    mkdir -p "$home/target" 2>/dev/null && true 2>/dev/null 9>>"$builder" || die "$home/target can't be written, so that nothing can be built there"
+    exec 9<"$home"
     waited=0
     until flock -n 9; do
-        [ $((waited % 10)) -ne 0 ] || say "another build is going on in this checkout (process $(cat "$holder")); waiting"
+        [ $? -eq 1 ] || die "$home can't be locked"
+        number=$(cat "$builder" 2>/dev/null)
+        [ $((waited % 9)) -ne 0 ] || say "another build is going on in this checkout${number:+ (process $number)}; waiting"
         waited=$((waited + 1))
         sleep 1
     done
-    echo $$ >"$holder"
+    echo $$ >"$builder"
     locked=yes
 }
 
 unlock() {
-    exec 9>&-
+    exec 9<&-
     locked=
 }
 
