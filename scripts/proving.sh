@@ -31,11 +31,12 @@ unlock() {
     locked=
 }
 
-sources() { (cd "$home" && find crates crates.txt -type f -exec sha256sum {} + | sort | sha256sum); }
+# The checksum of all that is proved, and of the scripts, which say how it is built.
+sources() { (cd "$home" && find crates crates.txt scripts -type f -exec sha256sum {} + | sort | sha256sum); }
 
-# What a built file was made of: the kit, the sources and, so that no other file is taken for it, its own bytes.
+# What a built file was made of: the kit, the machine, the sources and, so that no other file is taken for it, its own bytes.
 made_of() { # FILE KIT
-    printf 'kit %s\nsources %s\nfile %s\n' "$2" "$(sources)" "$(sha256sum <"$1")"
+    printf 'kit %s\nmachine %s\nsources %s\nfile %s\n' "$2" "$(uname -m)" "$(sources)" "$(sha256sum <"$1")"
 }
 
 # Whether a file was built of these sources by this kit. Dates say nothing. Where there is no kit, the one that built it will do.
