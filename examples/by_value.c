@@ -1,6 +1,6 @@
 /* For machines other than x86-64. The module takes the place for an answer as its first argument, as x86-64 passes it; on Arm a C caller
-   passes that place in a register of its own. A program that is linked with --wrap for the three functions calls these, and
-   __real_.. is the module's function. */
+   passes that place in a register of its own. scripts/library.sh gives each __wrap_.. function the name of the one that it stands
+   for, and __real_.. is the module's function. */
 #include "savuneco.h"
 
 void __real_savuneco_task(savuneco_asked *asked, const uint8_t *file, size_t file_len);
