@@ -1,5 +1,5 @@
 -- Who signed whom on a card that was read, by the bytes where its verdicts stand and by what it says, are the same (`root-signed`,
--- `bundle-signed`); past the end both are no. For issuing/proofs/Agrees.antt. By bytes: verdicts/specs/Grid.antt; by what the card says:
+-- `bundle-signed`); past the end both are false. For issuing/proofs/Agrees.antt. By bytes: verdicts/specs/Grid.antt; by what the card says:
 -- `signed` of specs/Content.antt.
 use Prim.Native.Nat.{ℕ, suc, _+_, _*_, _<_}
 use mathlib.Core.Path.{_≡_, refl, sym, ap, _∙_}

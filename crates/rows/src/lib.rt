@@ -9,7 +9,7 @@ impl Row {
     pub const PLACES: u8 = 64;
 }
 
-// Whether place i stands in a row; no where a row has no such place.
+// Whether place i stands in a row. False if a row has no room for such a place.
 pub fn has(row: u64, i: u8) -> bool
     ensures { λ r. ⌜ r ≡ has i row ⌝ }
 {

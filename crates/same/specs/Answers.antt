@@ -27,7 +27,7 @@ asked q (stop r) b = r
 asked q (got x e) (stop r) = r
 asked q (got x e) (got y f) = cond (q x y) 1 0
 
--- both can be read and q relates them; no where either can't
+-- both can be read and q relates them; false if either can't be read
 abbrev pub bothRead : {A : Type 0} → (A → A → Bool) → Parsed A → Parsed A → Bool
 bothRead q (stop r) b = false
 bothRead q (got x e) (stop r) = false

@@ -21,7 +21,7 @@ unfoldable pub standing : {A : Type 0} → (List ℕ → ℕ → Parsed A) → �
 standing p zero s at = []
 standing p (suc n) s at = with-rest (p s at) (λ e. standing p n s e)
 
--- the attribute at a place is among these; no where none can be read there
+-- the attribute at a place is among these; false if none can be read there
 unfoldable pub hasRead : Bool → List Attr → Parsed Attr → Bool
 hasRead normalise rdn (got x e) = rdnHasName normalise rdn x
 hasRead normalise rdn (stop r) = false

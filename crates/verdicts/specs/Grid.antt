@@ -24,7 +24,7 @@ fresh-verdicts = record { roots = 0; bundle = 0; first = 0 }
 
 -- ---- by place
 
--- row and column of the verdicts hold a 1: no where the file has no such place
+-- row and column of the verdicts hold a 1; false if the file has no such place
 unfoldable pub signedAt : Verdicts → List ℕ → ℕ → ℕ → Bool
 signedAt v s row column = ltb column (v .bundle) && eqb (getD s (v .first + (row * v .bundle + column)) 0) 1
 

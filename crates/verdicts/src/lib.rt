@@ -43,7 +43,7 @@ impl Verdicts {
         (roots as usize + bundle as usize) * (bundle as usize)
     }
 
-    // A root signed a certificate of the bundle; no where there is no such place.
+    // A root signed a certificate of the bundle. False if either place doesn't exist.
     pub fn root_signed(self, file: &[u8], issuer: RootPlace, subject: BundlePlace) -> bool
         ensures { λ r. ⌜ r ≡ rootSigned self (now (file .entry)) (issuer .0) (subject .0) ⌝ }
     {
@@ -53,7 +53,7 @@ impl Verdicts {
         signed_at(self, file, issuer.0 as usize, subject.0 as usize)
     }
 
-    // A certificate of the bundle signed another, or itself; no where there is no such place.
+    // A certificate of the bundle signed another, or itself. False if either place doesn't exist.
     pub fn bundle_signed(self, file: &[u8], issuer: BundlePlace, subject: BundlePlace) -> bool
         ensures { λ r. ⌜ r ≡ bundleSigned self (now (file .entry)) (issuer .0) (subject .0) ⌝ }
     {

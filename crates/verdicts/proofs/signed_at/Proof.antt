@@ -1,4 +1,4 @@
--- `signed_at` is whether a row's verdict in a column is 1, and no where there is no such column or no such byte.
+-- `signed_at` is whether a row's verdict in a column is 1; false if there is no such column or no such byte.
 use Prim.Native.Nat.{_+_, _*_}
 use borrow.Author.Needs.{needs}
 use native.Mathlib.Omega.{arith}
