@@ -1,6 +1,7 @@
--- A reading in plain numbers is what its file asks (`reading-asks`). The bytes from the host's place to the file's end are the host
--- (`host-stands`). Where the file can't be read the number is one of 4 to 9 (`fault-number`), and the search says the same one
--- (`fault-searched`).
+-- What a file asks. For the proof of `savuneco_task`: a reading in plain numbers is what its file asks (`reading-asks`), and its host's end
+-- is not before its start (`host-ordered`). For who reads the answer: the bytes from the host's place to the file's end are the host
+-- (`host-stands`); where the file can't be read the number is one of 4 to 9 (`fault-number`), and the search says the same (`fault-searched`).
+-- Definition: specs/Asked.antt; that what was read is what the file says: card/proofs/Values.antt.
 use Prim.Native.Nat.{ℕ, _-_, _≤_}
 use mathlib.Core.Path.{_≡_, refl, sym, ap, _∙_}
 use mathlib.Core.List.{List}

@@ -1,4 +1,4 @@
--- A yes or no as the byte that the code makes of it.
+-- A yes or no as the byte that the code makes of it (`byte-is`), for the questions that answer one. Definition: specs/Leaves.antt.
 use mathlib.Core.Bool.{Bool, true, false}
 use mathlib.Core.Path.{_≡_, refl}
 use mir.Val.{boolByte}

@@ -1,4 +1,4 @@
--- A path's places turned into bytes, one after the other.
+-- A path's places turned into bytes, one after the other: a turn of the loop of `numbers_of` (`number-more`). Definition: specs/Plain.antt.
 use mathlib.Core.Path.{_≡_, refl, ap}
 use mathlib.Core.List.{List, [], _∷_, _++_}
 use Prim.Native.Nat.{ℕ, zero, suc, _+_, _<_}

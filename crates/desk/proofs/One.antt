@@ -1,5 +1,5 @@
 -- What C is answered is settled: two outcomes that satisfy what `savuneco_search` promises are one answer and one room (`search-one`),
--- and so for `savuneco_paused` (`paused-one`). The other functions promise equations.
+-- and so for `savuneco_paused` (`paused-one`). The other functions promise equations. Of a card file, for Rattle: search/proofs/One.antt.
 use mathlib.Core.List.{List}
 use mathlib.Core.Path.{_≡_, sym, ap, _∙_}
 use Prim.Native.Nat.{ℕ}

@@ -1,4 +1,5 @@
--- Flags and answers as C has them.
+-- Flags and answers of the leaf questions as C has them: a flag, a yes or no, the answer of the normaliser.
+-- Not here: the questions themselves (text, keys, same and subtree, each in its specs/), the answer of a search (Plain.antt).
 use mathlib.Core.Bool.{Bool, cond, not}
 use Prim.Native.Nat.{ℕ}
 use lib.Dec.{eqb}

@@ -1,4 +1,6 @@
--- An answer in plain numbers.
+-- The answer of a search in plain numbers: a path's places, the answer, and what C is promised of it (`Says`).
+-- Not here: what is answered (search/specs/Search.antt, reply/specs/Answer.antt); a reply's number, root and steps (`told` of
+-- reply/specs/Numbers.antt); that one answer satisfies it (proofs/One.antt).
 use mathlib.Core.List.{List, map}
 use mathlib.Core.Path.{_≡_}
 use Prim.Native.Nat.{ℕ}
