@@ -216,6 +216,7 @@ static void texts(void)
     is("three spaces: number", form.number, 0);
     is("three spaces: length", form.length, 0);
     is("*.a.com and x.a.com", savuneco_match_name(TEXT("*.a.com"), TEXT("x.a.com")), 1);
+    is("*.a.com and a.com", savuneco_match_name(TEXT("*.a.com"), TEXT("a.com")), 0);
     is("*.a.com and x.y.a.com", savuneco_match_name(TEXT("*.a.com"), TEXT("x.y.a.com")), 0);
     is("192.0.2.9", savuneco_ip_addr_in_range(TEXT("\xC0\0\2\5\xFF\xFF\xFF\0"), TEXT("\xC0\0\2\x9")), 1);
     is("192.0.3.9", savuneco_ip_addr_in_range(TEXT("\xC0\0\2\5\xFF\xFF\xFF\0"), TEXT("\xC0\0\3\x9")), 0);

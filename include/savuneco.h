@@ -32,8 +32,8 @@ extern "C" {
      new header.
    A caller holds the major number at build time, by #if or _Static_assert on SAVUNECO_VERSION_MAJOR. The shared object's soname
    carries the same number. */
-#define SAVUNECO_VERSION "1.0.0"
-#define SAVUNECO_VERSION_MAJOR 1
+#define SAVUNECO_VERSION "2.0.0"
+#define SAVUNECO_VERSION_MAJOR 2
 #define SAVUNECO_VERSION_MINOR 0
 #define SAVUNECO_VERSION_PATCH 0
 
@@ -116,7 +116,8 @@ typedef struct {
 savuneco_normal savuneco_normalize(const uint8_t *s, size_t len, uint8_t *out, size_t out_len);
 
 /* 1 if the name fits the pattern, else 0, byte for byte. A pattern that does not begin with "*." fits only itself; "*." alone fits
-   nothing; "*." and a domain fits the domain, and one label and a dot before it. No letter is lowered. */
+   nothing; "*." and a domain fits one label, a dot and the domain, where the label has at least one byte and no dot: the bare domain
+   does not fit. No letter is lowered. */
 uint8_t savuneco_match_name(const uint8_t *pattern, size_t pattern_len, const uint8_t *name, size_t name_len);
 
 /* 1 if the address lies in the range, else 0. An address of 4 bytes and a range of 8, or of 16 and 32; every other pair of lengths

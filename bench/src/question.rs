@@ -205,7 +205,6 @@ fn matches_host(pattern: &[u8], host: &[u8]) -> bool {
     match pattern.strip_prefix(b"*.") {
         None => pattern.eq_ignore_ascii_case(host),
         Some(b"") => false,
-        Some(domain) if domain.eq_ignore_ascii_case(host) => true,
         Some(domain) => match host.iter().position(|byte| *byte == b'.') {
             Some(dot) => dot > 0 && domain.eq_ignore_ascii_case(&host[dot + 1..]),
             None => false,

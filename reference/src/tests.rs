@@ -44,7 +44,7 @@ fn text() {
 #[test]
 fn patterns() {
     let domain = b"*.a.com";
-    assert!(match_name(domain, b"a.com"));
+    assert!(!match_name(domain, b"a.com"));
     assert!(match_name(domain, b"x.a.com"));
     assert!(!match_name(domain, b".a.com"));
     assert!(!match_name(domain, b"x.y.a.com"));

@@ -9,12 +9,12 @@ pub fn normalise(s: &[u8]) -> Vec<u8> {
     words.join(&b' ').to_ascii_lowercase()
 }
 
-/// `*.a.com` matches `a.com` and one label before it; any other pattern matches itself alone. No case is folded here.
+/// `*.a.com` matches one label before `.a.com`; `*.` matches nothing, any other pattern itself alone. No case is folded here.
 pub fn match_name(pattern: &[u8], name: &[u8]) -> bool {
     match pattern.strip_prefix(b"*.") {
         None => name == pattern,
         Some(b"") => false,
-        Some(domain) => name == domain || name.strip_suffix(&pattern[1..]).is_some_and(is_label),
+        Some(_) => name.strip_suffix(&pattern[1..]).is_some_and(is_label),
     }
 }
 

@@ -8,7 +8,7 @@ ghost use Rattle.text.specs.Bytes.{lowered};
 ghost use Rattle.text.specs.Private.{loweredIf};
 ghost use Rattle.text.specs.Wildcard.{matchName};
 
-// Whether a name fits a pattern, byte for byte. "*." before a domain stands for the domain itself or one label before it.
+// Whether a name fits a pattern, byte for byte. A star before a domain stands for one label of at least one byte.
 pub fn match_name(pattern: &[u8], name: &[u8]) -> bool
     ensures { λ r. ⌜ r ≡ matchName (now (pattern .entry)) (now (name .entry)) ⌝ }
 {
@@ -31,9 +31,6 @@ fn match_lowering(pattern: &[u8], name: &[u8], lowering: bool) -> bool
     }
     if pattern.len() <= 2 {
         return false;
-    }
-    if equal_lowering(&pattern[2..], name, lowering) {
-        return true;
     }
     let suffix = pattern.len() - 1;
     if name.len() <= suffix {

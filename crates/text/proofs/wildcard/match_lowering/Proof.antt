@@ -8,20 +8,17 @@ use lib.ListN.{drop, length-take}
 use denote.Ref.{now}
 use borrow.Author.Tests.{not-true, not-false}
 use borrow.Author.Needs.{needs}
-use Rattle.text.specs.Bytes.{same, startsWith}
+use Rattle.text.specs.Bytes.{startsWith}
 use Rattle.text.specs.Wildcard.{starDot}
 use Rattle.text.proofs.Same.{tail}
 use Rattle.text.proofs.Lowering.{low}
-use Rattle.text.proofs.Star.{plain, bare, domain, short, labelled, elsewhere}
+use Rattle.text.proofs.Star.{plain, bare, short, labelled, elsewhere}
 use Rattle.text.proofs.wildcard.match_lowering.Statement.{statement}
 use Rattle.text.proofs.wildcard.match_lowering.Tie as tie
 
--- what the function is asked, at two of its places
+-- what the function is asked
 abbrev entry : tie.After-starts-with → tie.Start
 entry c = c .before .before .before .before
-
-abbrev begun : tie.Else3 → tie.Start
-begun c = entry (c .before .before .before .before .before)
 
 abbrev t : tie.Start → Bool
 t s = s .args .lowering
@@ -35,10 +32,6 @@ name s = now (s .args .name)
 -- the pattern begins with "*."
 star : (c : tie.Else1) → startsWith (pattern (entry (c .before))) starDot ≡ true
 star c = sym (c .before .starts-with .ensures) ∙ not-false _ (c .if1 .left)
-
--- the name is not the pattern's own domain
-other : (c : tie.Else3) → same (low (t (begun c)) (drop 2 (pattern (begun c)))) (low (t (begun c)) (name (begun c))) ≡ false
-other c = sym (rw tail at (c .before .equal-lowering2 .ensures)) ∙ c .if3 .left
 
 slice-aggregate-starts-with : tie.Need-slice-aggregate-starts-with
 slice-aggregate-starts-with c = search needs
@@ -59,6 +52,17 @@ returns-2 c =
     let s = entry (c .before .before) in
     sym (bare (t s) (pattern s) (name s) (star (c .before)) (omega arith))
 
+sub-suffix : tie.Need-sub-suffix
+sub-suffix c = search needs
+
+returns-3 : tie.Need-returns-3
+returns-3 c =
+    let s = entry (c .before .before .before) in
+    sym (short (t s) (pattern s) (name s) (star (c .before .before)) (omega arith) (omega arith))
+
+sub-label : tie.Need-sub-label
+sub-label c = search needs
+
 sub-equal-lowering : tie.Need-sub-equal-lowering
 sub-equal-lowering c = search needs
 
@@ -67,25 +71,6 @@ part-equal-lowering-start c = search needs
 
 part-equal-lowering-end : tie.Need-part-equal-lowering-end
 part-equal-lowering-end c = search needs
-
-equal-lowering-requires-2 : tie.Need-equal-lowering-requires-2
-equal-lowering-requires-2 c κs = search needs
-
-returns-3 : tie.Need-returns-3
-returns-3 c =
-    let s = entry (c .before .before .before .before .before) in
-    sym (domain (t s) (pattern s) (name s) (star (c .before .before .before .before)) (omega arith) (sym (rw tail at (c .before .equal-lowering2 .ensures)) ∙ c .if3 .taken))
-
-sub-suffix : tie.Need-sub-suffix
-sub-suffix c = search needs
-
-returns-4 : tie.Need-returns-4
-returns-4 c =
-    let s = begun (c .before) in
-    sym (short (t s) (pattern s) (name s) (star (c .before .before .before .before .before)) (omega arith) (other (c .before)) (c .if4 .taken))
-
-sub-label : tie.Need-sub-label
-sub-label c = search needs
 
 sub-equal-lowering-2 : tie.Need-sub-equal-lowering-2
 sub-equal-lowering-2 c = search needs
@@ -96,17 +81,8 @@ part-equal-lowering-start-2 c = search needs
 part-equal-lowering-end-2 : tie.Need-part-equal-lowering-end-2
 part-equal-lowering-end-2 c = search needs
 
-sub-equal-lowering-3 : tie.Need-sub-equal-lowering-3
-sub-equal-lowering-3 c = search needs
-
-part-equal-lowering-start-3 : tie.Need-part-equal-lowering-start-3
-part-equal-lowering-start-3 c = search needs
-
-part-equal-lowering-end-3 : tie.Need-part-equal-lowering-end-3
-part-equal-lowering-end-3 c = search needs
-
-equal-lowering-requires-3 : tie.Need-equal-lowering-requires-3
-equal-lowering-requires-3 c κs = search needs
+equal-lowering-requires-2 : tie.Need-equal-lowering-requires-2
+equal-lowering-requires-2 c κs = search needs
 
 slice-aggregate-has-byte : tie.Need-slice-aggregate-has-byte
 slice-aggregate-has-byte c = simp length-take (omega arith)
@@ -114,19 +90,19 @@ slice-aggregate-has-byte c = simp length-take (omega arith)
 has-byte-requires : tie.Need-has-byte-requires
 has-byte-requires c κs = search needs
 
-returns-5 : tie.Need-returns-5
-returns-5 c =
+returns-4 : tie.Need-returns-4
+returns-4 c =
     let e = c .before .before .before in
     let f = e .before .before .before in
-    let s = begun (f .before) in
-    ap not (c .has-byte .ensures) ∙ sym (labelled (t s) (pattern s) (name s) (star (f .before .before .before .before .before)) (omega arith) (other (f .before)) (f .if4 .left) (sym (simp tail at (e .equal-lowering3 .ensures)) ∙ c .before .before .if5 .taken))
+    let s = entry (f .before .before .before) in
+    ap not (c .has-byte .ensures) ∙ sym (labelled (t s) (pattern s) (name s) (star (f .before .before)) (omega arith) (f .if3 .left) (sym (simp tail at (e .equal-lowering2 .ensures)) ∙ c .before .before .if4 .taken))
 
-returns-6 : tie.Need-returns-6
-returns-6 c =
+returns-5 : tie.Need-returns-5
+returns-5 c =
     let e = c .before in
     let f = e .before .before .before in
-    let s = begun (f .before) in
-    sym (elsewhere (t s) (pattern s) (name s) (star (f .before .before .before .before .before)) (omega arith) (other (f .before)) (f .if4 .left) (sym (simp tail at (e .equal-lowering3 .ensures)) ∙ c .if5 .left))
+    let s = entry (f .before .before .before) in
+    sym (elsewhere (t s) (pattern s) (name s) (star (f .before .before)) (omega arith) (f .if3 .left) (sym (simp tail at (e .equal-lowering2 .ensures)) ∙ c .if4 .left))
 
 pub match-lowering-spec : {M : Type 1} → statement M
 match-lowering-spec =
@@ -137,22 +113,17 @@ match-lowering-spec =
     equal-lowering-requires
     returns
     returns-2
+    sub-suffix
+    returns-3
+    sub-label
     sub-equal-lowering
     part-equal-lowering-start
     part-equal-lowering-end
-    equal-lowering-requires-2
-    returns-3
-    sub-suffix
-    returns-4
-    sub-label
     sub-equal-lowering-2
     part-equal-lowering-start-2
     part-equal-lowering-end-2
-    sub-equal-lowering-3
-    part-equal-lowering-start-3
-    part-equal-lowering-end-3
-    equal-lowering-requires-3
+    equal-lowering-requires-2
     slice-aggregate-has-byte
     has-byte-requires
-    returns-5
-    returns-6)
+    returns-4
+    returns-5)
