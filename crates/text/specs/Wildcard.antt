@@ -1,6 +1,6 @@
 -- When a host name fits a pattern (docs/CARD-FILE.md, "Text"; RFC 6125, 6.4.3: a star is compared with a name's left-most label and with
--- nothing else). Upstream's `match_name` finds a label by other tests (the law `star-upstream` of proofs/Star.antt), and lets a star fit the
--- bare domain too (docs/DIFFERENCES.md, D30). A reader must believe this file (docs/MAP.md).
+-- nothing else). Upstream's `match_name` lets a star fit the bare domain too (docs/DIFFERENCES.md, D30), and is this in all else, by the law
+-- `match-upstream` of proofs/Upstream.antt. A reader must believe this file (docs/MAP.md).
 -- In order: the left-most label, a name under a domain, a pattern. All byte for byte: `namesHost` of rules/specs/Rules.antt lowers host and
 -- DNS name before.
 use Prim.Native.Nat.{ℕ}

@@ -4,14 +4,13 @@ use mathlib.Core.Bool.{Bool, true, false, not}
 use mathlib.Core.List.{List}
 use Prim.Native.Nat.{ℕ}
 use native.Mathlib.Omega.{arith}
-use lib.ListN.{drop, length-take}
+use lib.ListN.{length-take}
 use denote.Ref.{now}
 use borrow.Author.Tests.{not-true, not-false}
 use borrow.Author.Needs.{needs}
 use Rattle.text.specs.Bytes.{startsWith}
 use Rattle.text.specs.Wildcard.{starDot}
 use Rattle.text.proofs.Same.{tail}
-use Rattle.text.proofs.Lowering.{low}
 use Rattle.text.proofs.Star.{plain, bare, short, labelled, elsewhere}
 use Rattle.text.proofs.wildcard.match_lowering.Statement.{statement}
 use Rattle.text.proofs.wildcard.match_lowering.Tie as tie
