@@ -48,6 +48,9 @@ fn patterns() {
     assert!(match_name(domain, b"x.a.com"));
     assert!(!match_name(domain, b".a.com"));
     assert!(!match_name(domain, b"x.y.a.com"));
+    assert!(!match_name(b"*.com", b"com"));
+    assert!(!match_name(b"*..", b"."));
+    assert!(match_name(b"*..", b"x.."));
     assert!(!match_name(b"*.", b"*."));
     assert!(!match_name(b"*.", b""));
     assert!(match_name(b"*", b"*"));

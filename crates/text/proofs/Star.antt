@@ -24,12 +24,15 @@ star-dot pattern e =
     let t : take 2 pattern ≡ starDot = same-sound _ _ (both-true (leb 2 (length pattern)) _ .0 e .1) in
     ap (drop 1) (sym (take-append-drop 2 pattern) ∙ ap (λ (r : List ℕ). r ++ drop 2 pattern) t)
 
--- under the star as upstream's `match_name` asks it: the name is longer than what follows the star, ends with it, and has no dot before it
-pub star-upstream : (pattern name : List ℕ) → startsWith pattern starDot ≡ true
-    → underDomain (drop 2 pattern) name
-    ≡ ltb (length pattern - 1) (length name)
+-- upstream's tests of a label before what follows the star: the name is longer than that, ends with it, and has no dot before it
+abbrev pub labelUpstream : List ℕ → List ℕ → Bool
+labelUpstream pattern name =
+    ltb (length pattern - 1) (length name)
     && same (drop (length name - (length pattern - 1)) name) (drop 1 pattern)
     && not (hasByte 46 (take (length name - (length pattern - 1)) name))
+
+pub star-upstream : (pattern name : List ℕ) → startsWith pattern starDot ≡ true
+    → underDomain (drop 2 pattern) name ≡ labelUpstream pattern name
 star-upstream pattern name e =
     let d : drop 1 pattern ≡ 46 ∷ drop 2 pattern = star-dot pattern e in
     let n : length pattern - 1 ≡ suc (length (drop 2 pattern)) = sym (length-drop 1 pattern) ∙ ap length d in

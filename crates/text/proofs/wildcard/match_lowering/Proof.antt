@@ -94,14 +94,14 @@ returns-4 c =
     let e = c .before .before .before in
     let f = e .before .before .before in
     let s = entry (f .before .before .before) in
-    ap not (c .has-byte .ensures) ∙ sym (labelled (t s) (pattern s) (name s) (star (f .before .before)) (omega arith) (f .if3 .left) (sym (simp tail at (e .equal-lowering2 .ensures)) ∙ c .before .before .if4 .taken))
+    ap not (c .has-byte .ensures) ∙ sym (labelled (t s) (pattern s) (name s) (star (f .before .before)) (omega arith) (omega arith) (sym (simp tail at (e .equal-lowering2 .ensures)) ∙ c .before .before .if4 .taken))
 
 returns-5 : tie.Need-returns-5
 returns-5 c =
     let e = c .before in
     let f = e .before .before .before in
     let s = entry (f .before .before .before) in
-    sym (elsewhere (t s) (pattern s) (name s) (star (f .before .before)) (omega arith) (f .if3 .left) (sym (simp tail at (e .equal-lowering2 .ensures)) ∙ c .if4 .left))
+    sym (elsewhere (t s) (pattern s) (name s) (star (f .before .before)) (omega arith) (omega arith) (sym (simp tail at (e .equal-lowering2 .ensures)) ∙ c .if4 .left))
 
 pub match-lowering-spec : {M : Type 1} → statement M
 match-lowering-spec =
