@@ -99,17 +99,39 @@ fn between_key(at: usize) -> usize {
     100 + at
 }
 
+/// The same name by normal form only: the case of every letter is turned, and for each space there are two.
+fn respelt(name: Name) -> Name {
+    name.into_iter()
+        .map(|(oid, value)| (oid, turned(&value).replace(' ', "  ")))
+        .collect()
+}
+
+fn turned(value: &str) -> String {
+    let turn = |letter: char| match letter.is_ascii_uppercase() {
+        true => letter.to_ascii_lowercase(),
+        false => letter.to_ascii_uppercase(),
+    };
+    value.chars().map(turn).collect()
+}
+
 /// What a file is made of in which all certificates have one name, and so are all compared where signatures hold.
 #[derive(Clone, Copy)]
 pub struct Alike {
     pub certificates: usize,
     pub roots: usize,
     pub signed: bool,
+    /// Whether a certificate spells its own name otherwise than its issuer's.
+    pub respelt: bool,
     pub budget: u64,
 }
 
 pub fn alike(wanted: Alike) -> Vec<u8> {
-    let each = || authority(between_name(0), 100, between_name(0), 100);
+    let name = || between_name(0);
+    let own = || match wanted.respelt {
+        true => respelt(name()),
+        false => name(),
+    };
+    let each = || authority(own(), 100, name(), 100);
     let card = Card {
         roots: (0..wanted.roots).map(|_| each()).collect(),
         bundle: (0..wanted.certificates).map(|_| each()).collect(),
@@ -127,6 +149,7 @@ pub fn complete(certificates: usize, budget: u64) -> Vec<u8> {
         certificates,
         roots: 0,
         signed: true,
+        respelt: false,
         budget,
     })
 }

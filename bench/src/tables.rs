@@ -19,6 +19,15 @@ const WALKS: [&Version; 7] = [
     &LIBRARY, &BEFORE, &TUNED, &PACKED, &DEPTHS, &UNCHECKED, &LEAN,
 ];
 
+/// The most pairs of names there can be, each the same by normal form only; the first path taken is accepted.
+const RESPELT: Alike = Alike {
+    certificates: 16,
+    roots: 32,
+    signed: true,
+    respelt: true,
+    budget: 1,
+};
+
 /// Whole answers, from the bytes of the file: the library's time, and its ratio to each other version.
 pub fn beside(lasting: Duration) {
     header(&["file", "bytes", "reply", "steps"], &[""], &ALL);
@@ -27,6 +36,7 @@ pub fn beside(lasting: Duration) {
         &inputs::complete(9, u64::MAX),
         lasting,
     );
+    row("names respelt", &inputs::alike(RESPELT), lasting);
     let mut whole = vec![0.0; ALL.len()];
     for (name, file) in ordinary_files() {
         let times = row(&name, &file, lasting);
@@ -34,7 +44,7 @@ pub fn beside(lasting: Duration) {
             *sum += time;
         }
     }
-    println!("| all but the first | | | | {} |", ratios(&whole, micros));
+    println!("| the set | | | | {} |", ratios(&whole, micros));
 }
 
 /// A table's head: its own columns, and for each kind of file one for each version.
@@ -170,16 +180,18 @@ pub fn reading(lasting: Duration) {
 pub fn issuing(lasting: Duration) {
     header(
         &["certificates", "roots"],
-        &["every signature holds: ", "none holds: "],
+        &["every signature holds: ", "names respelt: ", "none holds: "],
         &CLOSE,
     );
     for certificates in [4, 8, 16] {
         for roots in [1, 8, 32] {
-            let taken = [true, false].map(|signed| {
+            let kinds = [(true, false), (true, true), (false, false)];
+            let taken = kinds.map(|(signed, respelt)| {
                 let file = inputs::alike(Alike {
                     certificates,
                     roots,
                     signed,
+                    respelt,
                     budget: 0,
                 });
                 let past_reading = difference(&left_over(file.clone()), &file, &CLOSE, lasting);

@@ -1,7 +1,8 @@
-//! Holds the library and the terminal to the reference, on files of its own making or on damaged samples.
+//! Holds the library and the terminal to the reference, on files of its own making, on damaged samples or on pairs of values.
 //!
 //! compare OUT SEED COUNT [-- TERMINAL..]   OUT: where files that are answered differently are kept
 //! compare OUT damage CARD..
+//! compare OUT values
 //! compare OUT make SEED NUMBER             writes that file of the seed to standard output
 
 mod draft;
@@ -13,6 +14,7 @@ mod plans;
 mod random;
 mod tally;
 mod terminal;
+mod values;
 mod watch;
 mod wording;
 
@@ -48,8 +50,9 @@ fn main() -> ExitCode {
     let answer = match own[..] {
         [_, "make", seed, number] => write_file(seed, number),
         [out, "damage", ref cards @ ..] => damage_run(Run::new(out), cards),
+        [_, "values"] => Ok(values_run()),
         [out, seed, count] => seed_run(Run::new(out), seed, count, program),
-        _ => Err("usage: compare SEED COUNT | damage | make SEED NUMBER".into()),
+        _ => Err("usage: compare SEED COUNT | damage | values | make SEED NUMBER".into()),
     };
     answer.unwrap_or_else(|message| {
         eprintln!("compare: {message}");
@@ -106,6 +109,17 @@ fn damage_run(mut run: Run, cards: &[&str]) -> Result<ExitCode, String> {
     Ok(run.end())
 }
 
+fn values_run() -> ExitCode {
+    let (passed, failed) = values::compare();
+    ended(passed, failed)
+}
+
+/// The run's last line, and its exit status.
+fn ended(passed: u64, failed: u64) -> ExitCode {
+    println!("{passed} passed, {failed} failed");
+    ExitCode::from(u8::from(failed > 0))
+}
+
 /// Every truncation, and each byte set to 0, to 255, one more and one less.
 fn damaged(whole: &[u8]) -> Vec<(String, Vec<u8>)> {
     let mut all = Vec::new();
@@ -141,8 +155,7 @@ impl Run {
     fn end(self) -> ExitCode {
         self.watch.rest();
         print!("{}", self.tally);
-        println!("{} passed, {} failed", self.passed, self.failed);
-        ExitCode::from(u8::from(self.failed > 0))
+        ended(self.passed, self.failed)
     }
 
     /// A file that gets no answer is a difference, and the last one of the run.

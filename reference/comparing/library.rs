@@ -24,6 +24,13 @@ impl Answer {
     };
 }
 
+/// `savuneco_normal`.
+#[repr(C)]
+struct Normal {
+    length: u64,
+    number: u8,
+}
+
 /// `savuneco_asked`.
 #[repr(C)]
 #[derive(Debug, Default, PartialEq, Eq)]
@@ -37,7 +44,7 @@ pub struct Asked {
     certificates: u8,
 }
 
-// The place for the answer comes first: so the kit's module takes it on every machine (examples/by_value.c).
+// The place for an answer of more than two words comes first: so the kit's module takes it on every machine (examples/by_value.c).
 extern "C" {
     fn savuneco_task(asked: *mut Asked, file: *const u8, file_len: usize);
     fn savuneco_search(
@@ -55,6 +62,14 @@ extern "C" {
         room: *mut u8,
         room_len: usize,
     );
+    fn savuneco_normalize(s: *const u8, len: usize, out: *mut u8, out_len: usize) -> Normal;
+    fn savuneco_same_attr(
+        a: *const u8,
+        a_len: usize,
+        b: *const u8,
+        b_len: usize,
+        normalise: u8,
+    ) -> u8;
 }
 
 /// What a call answered, and the bytes that it left in the lent room and on both sides of it.
@@ -81,6 +96,28 @@ fn pointer(bytes: &[u8]) -> *const u8 {
         [] => std::ptr::null(),
         _ => bytes.as_ptr(),
     }
+}
+
+/// The normal form of a value, which is lent as many bytes as it has.
+pub fn normal_by_library(value: &[u8]) -> Vec<u8> {
+    let mut room = vec![b'#'; value.len()];
+    let out = match room.is_empty() {
+        true => std::ptr::null_mut(),
+        false => room.as_mut_ptr(),
+    };
+    // SAFETY: each pointer is valid for its length, and the room overlaps nothing else that is in use.
+    let normal = unsafe { savuneco_normalize(pointer(value), value.len(), out, room.len()) };
+    assert_eq!(normal.number, 0, "room of the value's length was refused");
+    room.truncate(normal.length as usize);
+    room
+}
+
+/// Whether two attributes of one OID and these values are the same in normal form.
+pub fn same_by_library(a: &[u8], b: &[u8]) -> bool {
+    let encoded = |value: &[u8]| [&[1, b'x', value.len() as u8], value].concat();
+    let (a, b) = (encoded(a), encoded(b));
+    // SAFETY: each pointer is valid for its length.
+    unsafe { savuneco_same_attr(a.as_ptr(), a.len(), b.as_ptr(), b.len(), 1) == 1 }
 }
 
 pub fn task_by_library(file: &[u8]) -> Asked {

@@ -68,8 +68,10 @@ pub fn name_of(entity: usize, dress: Dress) -> Name {
 /// The same name to `same_dn`, written in another way; one in a hundred is a near miss.
 pub fn varied(random: &mut Random, name: &Name) -> Name {
     let mut name = name.clone();
+    let wholly = random.chance(20);
     for (_, value) in name.iter_mut().flatten() {
         match random.below(12) {
+            _ if wholly => *value = respelt(random, value),
             0 => flip_cases(random, value),
             1 => value.insert(0, b' '),
             2 => value.extend(b"  "),
@@ -96,11 +98,31 @@ fn spaced(value: &[u8]) -> Vec<u8> {
     words.join(&b"   "[..])
 }
 
+/// The same words with other spaces between them and at both ends, and their letters in any case.
+fn respelt(random: &mut Random, value: &[u8]) -> Vec<u8> {
+    let words = value.split(|byte| *byte == b' ');
+    let mut other = spaces(random, 0);
+    for (at, word) in words.filter(|word| !word.is_empty()).enumerate() {
+        if at > 0 {
+            other.extend(spaces(random, 1));
+        }
+        other.extend(word);
+    }
+    other.extend(spaces(random, 0));
+    flip_cases(random, &mut other);
+    other
+}
+
+/// So many spaces, or up to two more.
+fn spaces(random: &mut Random, least: usize) -> Vec<u8> {
+    vec![b' '; random.within(least..=least + 2)]
+}
+
 /// Makes a name that is close to the given one and not the same.
 fn miss(random: &mut Random, name: &mut Name) {
     let rdn = random.below(name.len());
     let (oid, value) = &mut name[rdn][0];
-    match random.below(10) {
+    match random.below(13) {
         0 => value.push(b'\t'),
         1 => value.retain(|byte| *byte != b' '),
         2 => value.push(0xE9),
@@ -110,7 +132,23 @@ fn miss(random: &mut Random, name: &mut Name) {
         6 => name[rdn].push(attribute(UNIT, "")),
         7 => name.reverse(),
         8 => name.push(vec![attribute(UNIT, "")]),
+        9 => value.insert(value.len() / 2, b' '),
+        10 => tab(value),
+        11 => without_last_word(value),
         _ => drop(name.pop()),
+    }
+}
+
+/// A tab is no space.
+fn tab(value: &mut [u8]) {
+    let spaces = value.iter_mut().filter(|byte| **byte == b' ');
+    spaces.for_each(|byte| *byte = b'\t');
+}
+
+/// The space before the last word then ends the value.
+fn without_last_word(value: &mut Vec<u8>) {
+    if let Some(space) = value.iter().rposition(|byte| *byte == b' ') {
+        value.truncate(space + 1);
     }
 }
 

@@ -1,12 +1,11 @@
 -- What each case of an answer stands for, and what stands at the places that it tells. Attributes, RDNs and names by their values:
 -- Names.antt; that no two answers say the same: proofs/Pinned.antt.
-use Prim.Native.Nat.{ℕ, _≤_}
+use Prim.Native.Nat.{ℕ}
 use mathlib.Core.List.{List}
-use lib.ListN.{length}
 use Rattle.fields.specs.Fields.{Parsed, got, stop, after}
 use Rattle.fields.specs.Spans.{spanP, bytesOf}
 use Rattle.fields.specs.Answers.{number}
-use Rattle.names.specs.Names.{Attr, valueMost}
+use Rattle.names.specs.Names.{Attr}
 use Rattle.names.specs.declared.read.Attribute.{Attribute}
 use Rattle.names.specs.declared.read.AttributeAt.{AttributeAt}
 use Rattle.names.specs.declared.read.AttributeAt.the-variants as attribute
@@ -38,7 +37,3 @@ nameBegun (name.Stop f) = stop (number f)
 -- the attribute that stands at the places of one that was read
 abbrev pub attrOf : Attribute → List ℕ → Attr
 attrOf a s = record { oid = bytesOf (a .oid) s; value = bytesOf (a .value) s }
-
--- its value is no longer than a value may be
-abbrev pub Short : Attribute → List ℕ → Type 0
-Short a s = length (bytesOf (a .value) s) ≤ valueMost

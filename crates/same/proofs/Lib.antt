@@ -1,8 +1,12 @@
+pub mod Abreast
+pub mod Alike
 pub mod Asked
 pub mod Compared
+pub mod Counts
 pub mod Frauds
 pub mod Members
 pub mod Pinned
+pub mod Rests
 pub mod Rows
 pub mod Spans
 pub mod Standing

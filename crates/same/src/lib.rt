@@ -4,6 +4,7 @@
 // `has_name` and `matched_walk`. What lies under what is left to the crate above.
 mod matching;
 mod related;
+mod values;
 mod walk;
 
 pub use matching::has_name;

@@ -1,4 +1,5 @@
 // Two attributes, RDNs or names walked side by side, place by place.
+use crate::values::same_normal;
 use fields::Span;
 use fields::part;
 use names::Attribute;
@@ -8,17 +9,11 @@ use names::RdnAt;
 use names::attribute_at;
 use names::name_begins;
 use names::rdn_begins;
-use text::Normalized;
 use text::equal;
-use text::normalize_string;
 ghost use mathlib.Core.Path.{_≡_};
-ghost use Prim.Native.Nat.{_≤_};
-ghost use lib.ListN.{length};
 ghost use Rattle.fields.specs.Fields.{many};
-ghost use Rattle.text.specs.Bytes.{same};
-ghost use Rattle.text.specs.Normal.{normal};
 ghost use Rattle.names.specs.Names.{attrP, rdnP, nameP};
-ghost use Rattle.names.specs.Answers.{attrOf, Short};
+ghost use Rattle.names.specs.Answers.{attrOf};
 ghost use Rattle.same.specs.Same.{places, sameAttr, sameRdn, sameDn};
 ghost use Rattle.same.specs.Answers.{sameNames};
 ghost use Rattle.same.specs.Walks.{walk};
@@ -141,9 +136,8 @@ pub(crate) fn attr_walk(s: &[u8], at: usize, t: &[u8], bt: usize, normalise: boo
     Walk::Differ
 }
 
-// Whether two attributes that were read are the same. Equal values are not normalised, since their normal forms are equal too.
+// Whether two attributes that were read are the same. Equal values need no walk, since their normal forms are equal too.
 fn same_attribute(s: &[u8], a: Attribute, t: &[u8], b: Attribute, normalise: bool) -> bool
-    requires { ⌜ Short a (now s) × Short b (now t) ⌝ }
     ensures { λ r. ⌜ r ≡ sameAttr normalise (attrOf a (now (s .entry))) (attrOf b (now (t .entry))) ⌝ }
 {
     if !equal(part(s, a.oid), part(t, b.oid)) {
@@ -158,20 +152,4 @@ fn same_attribute(s: &[u8], a: Attribute, t: &[u8], b: Attribute, normalise: boo
         return same_normal(x, y);
     }
     false
-}
-
-// Whether two values have the same normal form: each is at most an attribute value's longest.
-fn same_normal(a: &[u8], b: &[u8]) -> bool
-    requires { do ⌜ (length (now a) ≤ (← ⟦Attribute::VALUE_MOST⟧)) × (length (now b) ≤ (← ⟦Attribute::VALUE_MOST⟧)) ⌝ }
-    ensures { λ r. ⌜ r ≡ same (normal (now (a .entry))) (normal (now (b .entry))) ⌝ }
-{
-    let mut x = [0u8; Attribute::VALUE_MOST];
-    let Normalized::Length(n) = normalize_string(a, &mut x) else {
-        return false;
-    };
-    let mut y = [0u8; Attribute::VALUE_MOST];
-    let Normalized::Length(m) = normalize_string(b, &mut y) else {
-        return false;
-    };
-    equal(&x[..n], &y[..m])
 }

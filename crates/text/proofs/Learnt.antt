@@ -1,5 +1,5 @@
 -- What a caller of `normalize_string` learns from its answer: the form that was written (`learnt`), and that room as long as the string is
--- enough (`roomy`). For `same_normal` of same; what is answered: specs/Normalize.antt.
+-- enough (`roomy`). What is answered: specs/Normalize.antt.
 use Prim.Native.Nat.{ℕ, _≤_}
 use mathlib.Core.Path.{_≡_, sym, ap, _∙_}
 use mathlib.Core.Bool.{Bool, true, false, cond}

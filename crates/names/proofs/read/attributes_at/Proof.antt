@@ -34,7 +34,7 @@ loop-again : tie.Need-loop-again Inv-loop μ-loop
 loop-again c =
     let a = c .before .before .before in
     let e = attr-read _ _ _ (a .attribute-at .ensures) _ (c .before .attribute .given .1) in
-    a .before .before .loop .inv ∙ many-some _ _ _ _ (a .before .loop-test .taken) ∙ rw (e .is)
+    a .before .before .loop .inv ∙ many-some _ _ _ _ (a .before .loop-test .taken) ∙ rw e
 
 enum-known-fault : tie.Need-enum-known-fault Inv-loop μ-loop
 enum-known-fault c = search needs

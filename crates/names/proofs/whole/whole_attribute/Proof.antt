@@ -16,12 +16,12 @@ enum-known-a c = search needs
 returns : tie.Need-returns
 returns c =
     let a = c .before .before .before in
-    sym (left-over _ _ _ (ap passing (attr-read _ _ _ (a .before .before .attribute-at .ensures) _ (a .a .given .1) .is)) (c .if1 .taken))
+    sym (left-over _ _ _ (ap passing (attr-read _ _ _ (a .before .before .attribute-at .ensures) _ (a .a .given .1))) (c .if1 .taken))
 
 returns-2 : tie.Need-returns-2
 returns-2 c =
     let a = c .before .before .before in
-    sym (fills _ _ _ (ap passing (attr-read _ _ _ (a .before .before .attribute-at .ensures) _ (a .a .given .1) .is)) (c .if1 .left))
+    sym (fills _ _ _ (ap passing (attr-read _ _ _ (a .before .before .attribute-at .ensures) _ (a .a .given .1))) (c .if1 .left))
 
 enum-known-fault : tie.Need-enum-known-fault
 enum-known-fault c = search needs

@@ -50,7 +50,7 @@ loop-again c =
     let w = k .before .before .before in
     let a = attr-read _ _ _ (k .attribute-at .ensures) _ (c .before .a .given .1) in
     w .before .before .loop .inv
-    ∙ has-further _ _ _ _ _ (w .before .loop-test .taken) (sym (w .attr-walk .ensures) ∙ k .before .enum-told2 .given .1) _ _ (a .is)
+    ∙ has-further _ _ _ _ _ (w .before .loop-test .taken) (sym (w .attr-walk .ensures) ∙ k .before .enum-told2 .given .1) _ _ a
 
 enum-told-3 : tie.Need-enum-told-3 Inv-loop μ-loop
 enum-told-3 c = search needs

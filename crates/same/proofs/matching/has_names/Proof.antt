@@ -35,8 +35,8 @@ returns : tie.Need-returns Inv-loop μ-loop
 returns c =
     let k = c .before .before .before .before .before in
     let x = attr-read _ _ _ (k .attribute-at .ensures) _ (c .before .before .before .x .given .1) in
-    let no = sym (has-read _ _ _ _ _ (x .is)) ∙ sym (c .before .has-name .ensures) ∙ not-true (c .before .has-name .result) (c .if1 .taken) in
-    sym (k .before .before .loop .inv ∙ rw (standing-some attrP _ _ _ (k .before .loop-test .taken), x .is, no))
+    let no = sym (has-read _ _ _ _ _ x) ∙ sym (c .before .has-name .ensures) ∙ not-true (c .before .has-name .result) (c .if1 .taken) in
+    sym (k .before .before .loop .inv ∙ rw (standing-some attrP _ _ _ (k .before .loop-test .taken), x, no))
 
 sub-rest : tie.Need-sub-rest Inv-loop μ-loop
 sub-rest c = search needs
@@ -48,8 +48,8 @@ loop-again : tie.Need-loop-again Inv-loop μ-loop
 loop-again c =
     let k = c .before .before .before .before .before in
     let x = attr-read _ _ _ (k .attribute-at .ensures) _ (c .before .before .before .x .given .1) in
-    let yes = sym (has-read _ _ _ _ _ (x .is)) ∙ sym (c .before .has-name .ensures) ∙ not-false (c .before .has-name .result) (c .if1 .left) in
-    k .before .before .loop .inv ∙ rw (standing-some attrP _ _ _ (k .before .loop-test .taken), x .is, yes)
+    let yes = sym (has-read _ _ _ _ _ x) ∙ sym (c .before .has-name .ensures) ∙ not-false (c .before .has-name .result) (c .if1 .left) in
+    k .before .before .loop .inv ∙ rw (standing-some attrP _ _ _ (k .before .loop-test .taken), x, yes)
 
 enum-told : tie.Need-enum-told Inv-loop μ-loop
 enum-told c = search needs

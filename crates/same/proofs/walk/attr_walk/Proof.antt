@@ -1,25 +1,9 @@
 -- `attr_walk` ends where the two attributes end, if they can be read and are the same.
 use mathlib.Core.Path.{sym, _∙_}
-use denote.Ref.{now}
-use Rattle.names.proofs.Attributes.{AttrRead, attr-read, attr-stops}
+use Rattle.names.proofs.Attributes.{attr-read, attr-stops}
 use borrow.Author.Needs.{needs}
 use Rattle.same.proofs.walk.attr_walk.Statement.{statement}
 use Rattle.same.proofs.walk.attr_walk.Tie as tie
-
--- the first attribute, and the second, where they were read
-left : (k : tie.After-a)
-    → AttrRead
-    (now (k .before .before .before .before .before .args .s))
-    (k .before .before .before .before .before .args .at)
-    (k .a .given .0 .0)
-left k = attr-read _ _ _ (k .before .before .attribute-at .ensures) _ (k .a .given .1)
-
-right : (k : tie.After-b)
-    → AttrRead
-    (now (k .before .before .before .before .before .before .before .before .before .args .t))
-    (k .before .before .before .before .before .before .before .before .before .args .bt)
-    (k .b .given .0 .0)
-right k = attr-read _ _ _ (k .before .before .attribute-at2 .ensures) _ (k .b .given .1)
 
 attribute-at-requires : tie.Need-attribute-at-requires
 attribute-at-requires c κs = search needs
@@ -45,20 +29,23 @@ enum-told-2 c = search needs
 returns-2 : tie.Need-returns-2
 returns-2 c =
     let y = c .before .before in
-    rw (left (y .before .before) .is, attr-stops _ _ _ (y .attribute-at2 .ensures) _ (c .enum-told2 .given .1))
+    let a = y .before .before in
+    rw (attr-read _ _ _ (a .before .before .attribute-at .ensures) _ (a .a .given .1), attr-stops _ _ _ (y .attribute-at2 .ensures) _ (c .enum-told2 .given .1))
 
 same-attribute-requires : tie.Need-same-attribute-requires
-same-attribute-requires c κs = (left (c .before .before .before .before .before) .short, right (c .before) .short)
+same-attribute-requires c κs = search needs
 
 returns-3 : tie.Need-returns-3
 returns-3 c =
     let b = c .before .before .before in
-    rw (left (b .before .before .before .before) .is, right b .is, sym (c .before .same-attribute .ensures) ∙ c .if1 .taken)
+    let a = b .before .before .before .before in
+    rw (attr-read _ _ _ (a .before .before .attribute-at .ensures) _ (a .a .given .1), attr-read _ _ _ (b .before .before .attribute-at2 .ensures) _ (b .b .given .1), sym (c .before .same-attribute .ensures) ∙ c .if1 .taken)
 
 returns-4 : tie.Need-returns-4
 returns-4 c =
     let b = c .before .before .before in
-    rw (left (b .before .before .before .before) .is, right b .is, sym (c .before .same-attribute .ensures) ∙ c .if1 .left)
+    let a = b .before .before .before .before in
+    rw (attr-read _ _ _ (a .before .before .attribute-at .ensures) _ (a .a .given .1), attr-read _ _ _ (b .before .before .attribute-at2 .ensures) _ (b .b .given .1), sym (c .before .same-attribute .ensures) ∙ c .if1 .left)
 
 pub attr-walk-spec : {M : Type 1} → statement M
 attr-walk-spec =

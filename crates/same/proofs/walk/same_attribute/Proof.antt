@@ -46,10 +46,7 @@ returns-2 c =
     (parts-compared _ _ _ _ _ (x .part3 .ensures) (v .before .part4 .ensures) (v .equal2 .ensures) ∙ c .if2 .taken)
 
 same-normal-requires : tie.Need-same-normal-requires
-same-normal-requires c κs =
-    let y = c .before .before .before in
-    let short = y .before .before .before .before .before .before .before .before .pre in
-    (rw (y .before .part3 .ensures) (short .0), rw (y .part4 .ensures) (short .1))
+same-normal-requires c κs = search needs
 
 returns-3 : tie.Need-returns-3
 returns-3 c =
