@@ -112,12 +112,12 @@ pub fn normal_by_library(value: &[u8]) -> Vec<u8> {
     room
 }
 
-/// Whether two attributes of one OID and these values are the same in normal form.
-pub fn same_by_library(a: &[u8], b: &[u8]) -> bool {
+/// What is answered of two attributes with one OID and these values, compared in normal form.
+pub fn same_by_library(a: &[u8], b: &[u8]) -> u8 {
     let encoded = |value: &[u8]| [&[1, b'x', value.len() as u8], value].concat();
     let (a, b) = (encoded(a), encoded(b));
     // SAFETY: each pointer is valid for its length.
-    unsafe { savuneco_same_attr(a.as_ptr(), a.len(), b.as_ptr(), b.len(), 1) == 1 }
+    unsafe { savuneco_same_attr(a.as_ptr(), a.len(), b.as_ptr(), b.len(), 1) }
 }
 
 pub fn task_by_library(file: &[u8]) -> Asked {

@@ -25,7 +25,8 @@ pub fn compare() -> (u64, u64) {
     for (at, a) in values.iter().enumerate() {
         for (bt, b) in values.iter().enumerate() {
             let library = same_by_library(a, b);
-            let (forms, reference) = (own[at] == own[bt], other[at] == other[bt]);
+            let forms = u8::from(own[at] == own[bt]);
+            let reference = u8::from(other[at] == other[bt]);
             if library == forms && library == reference {
                 passed += 1;
                 continue;
@@ -51,10 +52,10 @@ fn values() -> Vec<Vec<u8>> {
     all
 }
 
-fn show(a: &[u8], b: &[u8], library: bool, forms: bool, reference: bool) {
+fn show(a: &[u8], b: &[u8], library: u8, forms: u8, reference: u8) {
     let (a, b) = (String::from_utf8_lossy(a), String::from_utf8_lossy(b));
     println!("DIFFERENCE '{a}' and '{b}'");
-    println!("  same to the library   {library}");
-    println!("  its normal forms      {forms}");
-    println!("  the reference's       {reference}");
+    println!("  library                 {library}");
+    println!("  by its normal forms     {forms}");
+    println!("  by the reference's      {reference}");
 }

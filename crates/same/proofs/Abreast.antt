@@ -25,65 +25,72 @@ pub record Abreast (a b : List ℕ) (i j : ℕ) : Type 0 where
   pub left : i ≤ length a
   pub right : j ≤ length b
 
-pub begins : (a b : List ℕ) (p q : ℕ) → p ≡ 0 + spaces (drop 0 a) → q ≡ 0 + spaces (drop 0 b) → Abreast a b p q
-begins a b p q u v =
-    let m : p ≡ spaces a = omega (arith, u) in
-    let n : q ≡ spaces b = omega (arith, v) in
+pub begins : (a b : List ℕ) (i j : ℕ) → i ≡ 0 + spaces (drop 0 a) → j ≡ 0 + spaces (drop 0 b) → Abreast a b i j
+begins a b i j u v =
+    let m : i ≡ spaces a = omega (arith, u) in
+    let n : j ≡ spaces b = omega (arith, v) in
     record {
       is = rw (m, n, ← normal-from a, ← normal-from b, past-start false a, past-start false b);
       left = omega (arith, spaces-most a);
       right = omega (arith, spaces-most b);
     }
 
--- n bytes go together from places i and j on, and then the strings are l and m
+-- a cut of a string, and what is left behind it
+cut-within : (s : List ℕ) (i n : ℕ) → i ≤ length s → n ≤ length (drop i s) → i + n ≤ length s
+cut-within s i n h k = let l : length (drop i s) ≡ length s - i = length-drop i s in omega arith
+
+left-behind : (s : List ℕ) (k : ℕ) → k ≤ length s → length (drop k s) + k ≡ length s
+left-behind s k h = let l : length (drop k s) ≡ length s - k = length-drop k s in omega arith
+
+-- n bytes go together from places i and j on, and a′ and b′ come after them
 module _ (a b : List ℕ) (i j n : ℕ) (h : Abreast a b i j) (c : n ≡ together (take (length a - i) (drop i a)) (take (length b - j) (drop j b))) where
   counted : n ≡ together (drop i a) (drop j b)
   counted = c ∙ rw (tail i a, tail j b)
 
-  abbrev l : List ℕ
-  l = drop (i + n) a
+  abbrev a′ : List ℕ
+  a′ = drop (i + n) a
 
-  abbrev m : List ℕ
-  m = drop (j + n) b
+  abbrev b′ : List ℕ
+  b′ = drop (j + n) b
 
-  here : same (normal a) (normal b) ≡ same (rest l) (rest m)
+  here : same (normal a) (normal b) ≡ same (rest a′) (rest b′)
   here = h .is ∙ rw (← drop-drop n i a, ← drop-drop n j b, counted) (go-on (drop i a) (drop j b))
 
-  apart : together l m ≡ 0
+  apart : together a′ b′ ≡ 0
   apart = rw (← drop-drop n i a, ← drop-drop n j b, counted) (parted (drop i a) (drop j b))
 
   pub first-within : i + n ≤ length a
-  first-within = let k = simp length-drop at (together-most (drop i a) (drop j b) .0) in omega (arith, counted, h .left, k)
+  first-within = cut-within a i n (h .left) (rw counted (together-most (drop i a) (drop j b) .0))
 
   pub second-within : j + n ≤ length b
-  second-within = let k = simp length-drop at (together-most (drop i a) (drop j b) .1) in omega (arith, counted, h .right, k)
+  second-within = cut-within b j n (h .right) (rw counted (together-most (drop i a) (drop j b) .1))
 
-  module _ (p q : ℕ) (u : p ≡ i + n + spaces l) (v : q ≡ j + n + spaces m) where
-    first-length : length l + (i + n) ≡ length a
-    first-length = let k : length l ≡ length a - (i + n) = length-drop (i + n) a in omega (arith, first-within)
+  module _ (i′ j′ : ℕ) (u : i′ ≡ i + n + spaces a′) (v : j′ ≡ j + n + spaces b′) where
+    first-length : length a′ + (i + n) ≡ length a
+    first-length = left-behind a (i + n) first-within
 
-    second-length : length m + (j + n) ≡ length b
-    second-length = let k : length m ≡ length b - (j + n) = length-drop (j + n) b in omega (arith, second-within)
+    second-length : length b′ + (j + n) ≡ length b
+    second-length = left-behind b (j + n) second-within
 
     -- the first has only spaces left
-    pub answers-second : p ≡ length a → eqb q (length b) ≡ same (normal a) (normal b)
+    pub answers-second : i′ ≡ length a → eqb j′ (length b) ≡ same (normal a) (normal b)
     answers-second k =
-        let z : spaces l ≡ length l = omega (arith, u, first-length) in
-        tests-agree q (length b) (spaces m) (length m) (λ t. omega (arith, v, second-length)) (λ t. omega (arith, v, second-length)) ∙ sym (here ∙ first-through l m z)
+        let z : spaces a′ ≡ length a′ = omega (arith, u, first-length) in
+        tests-agree j′ (length b) (spaces b′) (length b′) (λ t. omega (arith, v, second-length)) (λ t. omega (arith, v, second-length)) ∙ sym (here ∙ first-through a′ b′ z)
 
     -- something comes after the first one's spaces, and one of the two has no space here
-    pub answers-no : (p ≡ length a → ⊥) → (p ≡ i + n) ⊎ (q ≡ j + n) → false ≡ same (normal a) (normal b)
+    pub answers-no : (i′ ≡ length a → ⊥) → (i′ ≡ i + n) ⊎ (j′ ≡ j + n) → false ≡ same (normal a) (normal b)
     answers-no k s =
-        sym (here ∙ first-goes-on l m apart (⊎-elim (λ t. inl (omega (arith, u))) (λ t. inr (omega (arith, v))) s) (λ z. k (omega (arith, u, first-length))))
+        sym (here ∙ first-goes-on a′ b′ apart (⊎-elim (λ t. inl (omega (arith, u))) (λ t. inr (omega (arith, v))) s) (λ z. k (omega (arith, u, first-length))))
 
-    pub next : (p ≡ i + n → ⊥) → (q ≡ j + n → ⊥) → Abreast a b p q
+    pub next : (i′ ≡ i + n → ⊥) → (j′ ≡ j + n → ⊥) → Abreast a b i′ j′
     next s t =
         record {
-          is = here ∙ gaps l m (λ z. s (omega (arith, u))) (λ z. t (omega (arith, v))) ∙ rw (u, v, ← drop-drop (spaces l) (i + n) a, ← drop-drop (spaces m) (j + n) b);
-          left = omega (arith, u, first-length, spaces-most l);
-          right = omega (arith, v, second-length, spaces-most m);
+          is = here ∙ gaps a′ b′ (λ z. s (omega (arith, u))) (λ z. t (omega (arith, v))) ∙ rw (u, v, ← drop-drop (spaces a′) (i + n) a, ← drop-drop (spaces b′) (j + n) b);
+          left = omega (arith, u, first-length, spaces-most a′);
+          right = omega (arith, v, second-length, spaces-most b′);
         }
 
     -- and the walk has moved on in the first
-    pub nearer : (p ≡ i + n → ⊥) → length a - p < length a - i
-    nearer s = omega (arith, u, first-length, spaces-most l)
+    pub nearer : (i′ ≡ i + n → ⊥) → length a - i′ < length a - i
+    nearer s = omega (arith, u, first-length, spaces-most a′)

@@ -5,7 +5,7 @@
 use Prim.Native.Nat.{ℕ, zero, suc}
 use mathlib.Core.Path.{_≡_, refl, sym, ap, _∙_}
 use mathlib.Core.Bool.{Bool, true, false, cond, _&&_, false≢true}
-use mathlib.Core.List.{List, [], _∷_, _++_}
+use mathlib.Core.List.{List, [], _∷_, _++_, cons≢nil}
 use mathlib.Core.Logic.{_⊎_, inl, inr, ⊎-elim}
 use native.Mathlib.Omega.{arith}
 use lib.ListN.{length, drop}
@@ -14,6 +14,7 @@ use borrow.Author.Tests.{eqb-true, eqb-false}
 use Rattle.text.specs.Bytes.{lowered, same}
 use Rattle.text.proofs.NormalFrom.{normalFrom}
 use Rattle.text.proofs.Lowering.{lowered-sign}
+use Rattle.text.proofs.Same.{differ}
 use Rattle.same.specs.Values.{together, spaces}
 
 -- what a form goes on with inside a word
@@ -140,8 +141,8 @@ none-left nw ws (b ∷ l) e = go (none-left nw true l) (eqb b 32) refl where
       absurd (omega arith)
 
 some-left : (t : Bool) (b : ℕ) (l : List ℕ) → cond t (32 ∷ []) [] ++ b ∷ l ≡ [] → ⊥
-some-left true b l e = let q : suc (suc (length l)) ≡ 0 = ap length e in omega arith
-some-left false b l e = let q : suc (length l) ≡ 0 = ap length e in omega arith
+some-left true b l e = cons≢nil e
+some-left false b l e = cons≢nil e
 
 only-spaces : (nw ws : Bool) (l : List ℕ) → normalFrom nw ws l ≡ [] → spaces l ≡ length l
 unfolding spaces normalFrom
@@ -151,18 +152,13 @@ only-spaces nw ws (b ∷ l) e = go (only-spaces nw true l) (eqb b 32) refl where
   go h true f = rw f (ap suc (h (sym (from-space b l nw ws f) ∙ e)))
   go h false f = absurd (some-left (nw && ws) (lowered b) (rest l) (sym (from-byte b l nw ws f) ∙ e))
 
-same-none : (l : List ℕ) → (l ≡ [] → ⊥) → same [] l ≡ false
-unfolding same
-same-none [] n = absurd (n refl)
-same-none (x ∷ l) n = refl
-
 -- the first has only spaces left: so must the second
 pub first-through : (a b : List ℕ) → spaces a ≡ length a → same (rest a) (rest b) ≡ eqb (spaces b) (length b)
 unfolding same
 first-through a b e = rw (none-left true false a e) (go (eqb (spaces b) (length b)) refl) where
   go : (t : Bool) → eqb (spaces b) (length b) ≡ t → same [] (rest b) ≡ t
   go true f = rw (none-left true false b (eqb-true _ _ f))
-  go false f = same-none (rest b) (λ n. eqb-false _ _ f (only-spaces true false b n))
+  go false f = differ [] (rest b) (λ n. eqb-false _ _ f (only-spaces true false b (sym n)))
 
 module _ (b : ℕ) (l : List ℕ) where
   -- what a form goes on with is nothing, or begins with the next byte lowered

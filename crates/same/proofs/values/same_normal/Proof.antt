@@ -61,31 +61,31 @@ past-spaces-requires-4 c κs = search needs
 
 returns : tie.Need-returns Inv-loop μ-loop
 returns c =
-    let q = c .before .before in
-    let p = q .before in
-    let n = p .before in
-    answers-second _ _ _ _ _ (n .before .before .before .loop .inv) (n .together .ensures) _ _ (omega (arith, p .past-spaces3 .ensures)) (omega (arith, q .past-spaces4 .ensures)) (c .if3 .taken)
+    let b = c .before .before in
+    let a = b .before in
+    let n = a .before in
+    answers-second _ _ _ _ _ (n .before .before .before .loop .inv) (n .together .ensures) _ _ (omega (arith, a .past-spaces3 .ensures)) (omega (arith, b .past-spaces4 .ensures)) (c .if3 .taken)
 
 returns-2 : tie.Need-returns-2 Inv-loop μ-loop
 returns-2 c =
-    let q = c .before .before in
-    let p = q .before in
-    let n = p .before in
-    ne-eqb _ _ (c .if3 .left) ∙ answers-no _ _ _ _ _ (n .before .before .before .loop .inv) (n .together .ensures) _ _ (omega (arith, p .past-spaces3 .ensures)) (q .past-spaces4 .ensures) (c .if3 .left) (⊎-elim (λ t. inl (t .taken)) (λ t. inr (eqb-true _ _ (t .1 .taken))) (c .before .if1 .came))
+    let b = c .before .before in
+    let a = b .before in
+    let n = a .before in
+    ne-eqb _ _ (c .if3 .left) ∙ answers-no _ _ _ _ _ (n .before .before .before .loop .inv) (n .together .ensures) _ _ (omega (arith, a .past-spaces3 .ensures)) (b .past-spaces4 .ensures) (c .if3 .left) (⊎-elim (λ t. inl (omega (arith, t .taken))) (λ t. inr (eqb-true _ _ (t .1 .taken))) (c .before .if1 .came))
 
 loop-less : tie.Need-loop-less Inv-loop μ-loop
 loop-less c =
-    let q = c .before .before in
-    let p = q .before in
-    let n = p .before in
-    nearer _ _ _ _ _ (n .before .before .before .loop .inv) (n .together .ensures) _ _ (omega (arith, p .past-spaces3 .ensures)) (q .past-spaces4 .ensures) (c .before .if1 .left)
+    let b = c .before .before in
+    let a = b .before in
+    let n = a .before in
+    nearer _ _ _ _ _ (n .before .before .before .loop .inv) (n .together .ensures) _ _ (omega (arith, a .past-spaces3 .ensures)) (b .past-spaces4 .ensures) (c .before .if1 .left)
 
 loop-again : tie.Need-loop-again Inv-loop μ-loop
 loop-again c =
-    let q = c .before .before in
-    let p = q .before in
-    let n = p .before in
-    next _ _ _ _ _ (n .before .before .before .loop .inv) (n .together .ensures) _ _ (omega (arith, p .past-spaces3 .ensures)) (omega (arith, q .past-spaces4 .ensures)) (c .before .if1 .left) (eqb-false _ _ (c .if2 .left))
+    let b = c .before .before in
+    let a = b .before in
+    let n = a .before in
+    next _ _ _ _ _ (n .before .before .before .loop .inv) (n .together .ensures) _ _ (omega (arith, a .past-spaces3 .ensures)) (omega (arith, b .past-spaces4 .ensures)) (c .before .if1 .left) (eqb-false _ _ (c .if2 .left))
 
 pub same-normal-spec : {M : Type 1} → statement M
 same-normal-spec =
