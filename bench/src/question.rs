@@ -117,14 +117,30 @@ fn same_rdns(mut a: &[u8], mut b: &[u8]) -> bool {
         }
         let attributes = a[0];
         (a, b) = (&a[1..], &b[1..]);
+        let whole = b;
         for _ in 0..attributes {
-            let same_oid = next_string(&mut a) == next_string(&mut b);
-            if !same_oid || !normal(next_string(&mut a)).eq(normal(next_string(&mut b))) {
+            let (x, y) = (next_attribute(&mut a), next_attribute(&mut b));
+            if !same_attribute(x, y) && !has(whole, attributes, x) {
                 return false;
             }
         }
     }
     true
+}
+
+type Attribute<'a> = (&'a [u8], &'a [u8]);
+
+fn same_attribute(x: Attribute, y: Attribute) -> bool {
+    x.0 == y.0 && normal(x.1).eq(normal(y.1))
+}
+
+/// Whether an attribute has a match among so many; of one it has been compared with that one already.
+fn has(mut rdn: &[u8], attributes: u8, x: Attribute) -> bool {
+    attributes > 1 && (0..attributes).any(|_| same_attribute(x, next_attribute(&mut rdn)))
+}
+
+fn next_attribute<'a>(rest: &mut &'a [u8]) -> Attribute<'a> {
+    (next_string(rest), next_string(rest))
 }
 
 fn next_string<'a>(rest: &mut &'a [u8]) -> &'a [u8] {

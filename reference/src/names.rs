@@ -7,9 +7,10 @@ pub fn same_attr(a: &Attribute, b: &Attribute) -> bool {
     a.oid == b.oid && normalise(a.value) == normalise(b.value)
 }
 
-/// As many attributes, the same place by place.
+/// As many attributes, and each of the first has a match in the second. Which is the first can decide: (a, a) is the same as (a, b), and
+/// (a, b) is not the same as (a, a).
 pub fn same_rdn(a: &[Attribute], b: &[Attribute]) -> bool {
-    a.len() == b.len() && a.iter().zip(b).all(|(x, y)| same_attr(x, y))
+    a.len() == b.len() && a.iter().all(|x| b.iter().any(|y| same_attr(x, y)))
 }
 
 /// As many RDNs, the same place by place.

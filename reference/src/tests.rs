@@ -60,11 +60,17 @@ fn patterns() {
 #[test]
 fn names() {
     let attribute = |oid: &'static [u8]| Attribute { oid, value: b"" };
+    let aa = || vec![attribute(b"a"), attribute(b"a")];
     let ab = || vec![attribute(b"a"), attribute(b"b")];
     let ba = || vec![attribute(b"b"), attribute(b"a")];
     assert!(same_rdn(&ab(), &ab()));
-    assert!(!same_rdn(&ab(), &ba()));
+    assert!(same_rdn(&ab(), &ba()));
+    assert!(same_rdn(&aa(), &ab()));
+    assert!(!same_rdn(&ab(), &aa()));
+    assert!(!same_rdn(&ab()[..1], &ab()));
     assert!(same_dn(&[ab(), ba()], &[ab(), ba()]));
+    assert!(same_dn(&[aa(), ba()], &[ba(), ab()]));
+    assert!(!same_dn(&[ab(), ba()], &[ba(), aa()]));
     assert!(!same_dn(&[ab()], &[ab(), ba()]));
     assert!(same_dn(&[], &[]));
 }

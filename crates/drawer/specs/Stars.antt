@@ -15,7 +15,6 @@ use Rattle.text.specs.Wildcard.{starDot, label, underDomain, matchName}
 use Rattle.keys.specs.Address.{masked, holds, ipAddrInRange}
 use Rattle.names.specs.Names.{Attr}
 use Rattle.same.specs.Same.{sameAttr}
-use Rattle.same.specs.Matching.{rdnHasName}
 use Rattle.subtree.specs.Subtree.{isSubtreeRdn}
 
 -- a text's bytes
@@ -72,5 +71,5 @@ table =
 
 -- every case of the table has the answer that stands beside it, and "*." matches no name at all
 pub stars : (right table ≡ true) × ((name : List ℕ) → matchName starDot name ≡ false)
-unfolding lowered same startsWith onto pieces wordsOf flatMap normal label underDomain matchName masked holds ipAddrInRange sameAttr rdnHasName isSubtreeRdn answer right net a b table
+unfolding lowered same startsWith onto pieces wordsOf flatMap normal label underDomain matchName masked holds ipAddrInRange sameAttr isSubtreeRdn answer right net a b table
 stars = (refl, λ name. refl)

@@ -1,9 +1,11 @@
 pub mod Abreast
 pub mod Alike
 pub mod Asked
+pub mod Beside
 pub mod Compared
 pub mod Counts
 pub mod Frauds
+pub mod Itself
 pub mod Members
 pub mod Pinned
 pub mod Rests

@@ -18,13 +18,11 @@ use Rattle.same.proofs.Standing.{standing-none, standing-some}
 module _ (normalise : Bool) where
   same-found : (a b : Attr) (l : List Attr) (t : Bool) → sameAttr normalise a b ≡ t → (i j e f : ℕ) → cond t (On i j) Differ ≡ On e f
       → rdnHasName normalise (a ∷ l) b ≡ true
-  unfolding rdnHasName
   same-found a b l true k i j e f h = rw k
   same-found a b l false k i j e f h = let z : _≡_ {A = ℕ} 0 1 = cc in absurd (omega arith)
 
   other-found : (a b : Attr) (l : List Attr) (t : Bool) → sameAttr normalise a b ≡ t → (i j : ℕ) → cond t (On i j) Differ ≡ Differ
       → rdnHasName normalise (a ∷ l) b ≡ rdnHasName normalise l b
-  unfolding rdnHasName
   other-found a b l true k i j h = let z : _≡_ {A = ℕ} 0 1 = cc in absurd (omega arith)
   other-found a b l false k i j h = rw k
 
@@ -41,7 +39,7 @@ module _ (normalise : Bool) where
   first-is-not a i (stop r) l h = refl
 
   nothing : (y : Parsed Attr) → hasRead normalise [] y ≡ false
-  unfolding hasRead rdnHasName
+  unfolding hasRead
   nothing (got b j) = refl
   nothing (stop r) = refl
 

@@ -15,28 +15,9 @@ use Rattle.fields.specs.Spans.{bytesOf}
 use Rattle.fields.specs.declared.string.Span.{Span}
 use Rattle.names.specs.Names.{Attr, nameP}
 use Rattle.names.proofs.Alike.{bytes-alike}
-use Rattle.same.specs.Same.{places, sameAttr, sameRdn, sameDn}
+use Rattle.same.specs.Same.{sameDn}
 use Rattle.same.specs.Answers.{bothRead, sameNames}
-
--- ---- each thing is the same as itself
-
-places-refl : {A : Type 0} (q : A → A → Bool) → ((x : A) → q x x ≡ true) → (l : List A) → places q l l ≡ true
-unfolding places
-places-refl q h [] = refl
-places-refl q h (x ∷ l) = rw (h x, places-refl q h l)
-
-attr-refl : (n : Bool) (a : Attr) → sameAttr n a a ≡ true
-unfolding sameAttr
-attr-refl true a = rw (same-refl (a .oid), same-refl (normal (a .value)))
-attr-refl false a = rw (same-refl (a .oid), same-refl (a .value))
-
-rdn-refl : (n : Bool) (a : List Attr) → sameRdn n a a ≡ true
-unfolding sameRdn
-rdn-refl n a = rw (eq-eqb (length a) (length a) refl, places-refl (sameAttr n) (attr-refl n) a)
-
-pub dn-refl : (n : Bool) (a : List (List Attr)) → sameDn n a a ≡ true
-unfolding sameDn
-dn-refl n a = rw (eq-eqb (length a) (length a) refl, places-refl (sameRdn n) (rdn-refl n) a)
+use Rattle.same.proofs.Itself.{dn-refl}
 
 -- ---- the answers
 

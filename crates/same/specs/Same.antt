@@ -1,14 +1,17 @@
--- When two attributes, RDNs or names are the same (docs/CARD-FILE.md, "Names related"; upstream's `same_attr`, `same_rdn`, `same_dn`; RFC
--- 5280, 7.1, but with the order in an RDN: docs/DIFFERENCES.md, F2). A flag says whether values are compared in normal form. A reader must
--- believe this file (docs/MAP.md).
--- Not here: the normal form (text/specs/Normal.antt); attributes in any order (Matching.antt); subtrees (subtree/specs/Subtree.antt).
-use mathlib.Core.Bool.{Bool, true, false, cond, _&&_}
+-- When two RDNs or names are the same (docs/CARD-FILE.md, "Names related"; RFC 5280, 7.1; upstream's `same_rdn`, `same_dn`, which keep the
+-- order in an RDN: docs/DIFFERENCES.md, F2). The first of two comes first throughout, since which is first can decide. A reader must believe
+-- this file (docs/MAP.md).
+-- Not here: two attributes (Matching.antt, whose `sameAttr` is handed on); subtrees (subtree/specs/Subtree.antt).
+use Prim.Native.Nat.{ℕ}
+use mathlib.Core.Path.{_≡_, refl}
+use mathlib.Core.Bool.{Bool, true, false, _&&_}
 use mathlib.Core.List.{List, [], _∷_}
 use lib.ListN.{length}
 use lib.Dec.{eqb}
 use Rattle.text.specs.Bytes.{same}
-use Rattle.text.specs.Normal.{normal}
 use Rattle.names.specs.Names.{Attr}
+use Rattle.same.specs.Matching.{matched}
+unfoldable pub use Rattle.same.specs.Matching.{sameAttr}
 
 -- q holds at each place of the first list, which is no longer than the second
 unfoldable pub places : {A : Type 0} → (A → A → Bool) → List A → List A → Bool
@@ -16,13 +19,19 @@ places q [] m = true
 places q (x ∷ l) [] = false
 places q (x ∷ l) (y ∷ m) = q x y && places q l m
 
--- equal OID, and equal value, normalised when the flag says so
-unfoldable pub sameAttr : Bool → Attr → Attr → Bool
-sameAttr normalise a b = same (a .oid) (b .oid) && cond normalise (same (normal (a .value)) (normal (b .value))) (same (a .value) (b .value))
-
--- as many attributes, the same place by place
+-- as many attributes, and each of the first has a match in the second (RFC 5280, 7.1: "they have the same number of naming attributes and
+-- for each naming attribute in RDN1 there is a matching naming attribute in RDN2")
 unfoldable pub sameRdn : Bool → List Attr → List Attr → Bool
-sameRdn normalise a b = eqb (length a) (length b) && places (sameAttr normalise) a b
+sameRdn normalise a b = eqb (length a) (length b) && matched normalise a b
+
+-- it has a direction: (a, a) is the same as (a, b), and (a, b) is not the same as (a, a)
+abbrev lone : ℕ → Attr
+lone oid = record { oid = oid ∷ []; value = [] }
+
+pub one-way : (sameRdn false (lone 97 ∷ lone 97 ∷ []) (lone 97 ∷ lone 98 ∷ []) ≡ true)
+    × (sameRdn false (lone 97 ∷ lone 98 ∷ []) (lone 97 ∷ lone 97 ∷ []) ≡ false)
+unfolding sameRdn sameAttr same
+one-way = (refl, refl)
 
 -- as many RDNs, the same place by place
 unfoldable pub sameDn : Bool → List (List Attr) → List (List Attr) → Bool

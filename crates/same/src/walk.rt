@@ -1,4 +1,5 @@
-// Two attributes, RDNs or names walked side by side, place by place.
+// Two attributes, RDNs or names walked side by side.
+use crate::matching::attrs_walk;
 use crate::values::same_normal;
 use fields::Span;
 use fields::part;
@@ -79,7 +80,7 @@ fn rdns_walk(s: &[u8], at: usize, t: &[u8], bt: usize, n: usize, normalise: bool
     Walk::On { left: a, right: b }
 }
 
-// The RDNs at two places: as many attributes, the same place by place.
+// The RDNs at two places: as many attributes, and each of the first has a match in the second. Most have one, which needs no search.
 pub(crate) fn rdn_walk(s: &[u8], at: usize, t: &[u8], bt: usize, normalise: bool) -> Walk
     ensures { λ r. ⌜ r ≡ walk (sameRdn normalise) (rdnP (now (s .entry)) at) (rdnP (now (t .entry)) bt) ⌝ }
 {
@@ -89,32 +90,13 @@ pub(crate) fn rdn_walk(s: &[u8], at: usize, t: &[u8], bt: usize, normalise: bool
     let RdnAt::Got(b) = rdn_begins(t, bt) else {
         return Walk::Differ;
     };
-    if a.count == b.count {
-        return attrs_walk(s, a.first, t, b.first, a.count, normalise);
+    if a.count != b.count {
+        return Walk::Differ;
     }
-    Walk::Differ
-}
-
-// n attributes from each of two places on.
-fn attrs_walk(s: &[u8], at: usize, t: &[u8], bt: usize, n: usize, normalise: bool) -> Walk
-    ensures { λ r. ⌜ r ≡ walk (places (sameAttr normalise)) (many attrP n (now (s .entry)) at) (many attrP n (now (t .entry)) bt) ⌝ }
-{
-    let mut a = at;
-    let mut b = bt;
-    let mut rest = n;
-    while 0 < rest {
-        match attr_walk(s, a, t, b, normalise) {
-            Walk::On { left, right } => {
-                a = left;
-                b = right;
-                rest -= 1;
-            }
-            Walk::Differ => {
-                return Walk::Differ;
-            }
-        }
+    if a.count == 1 {
+        return attr_walk(s, a.first, t, b.first, normalise);
     }
-    Walk::On { left: a, right: b }
+    attrs_walk(s, a.first, t, b.first, a.count, normalise)
 }
 
 // The attributes at two places.

@@ -1,3 +1,4 @@
+pub mod AsMany
 pub mod Found
 pub mod Rows
 pub mod Upstream

@@ -1,10 +1,12 @@
--- `rdn_walk` walks the attributes of two RDNs, which differ where their counts do.
+-- `rdn_walk` walks the attributes of two RDNs, which differ where their counts do; one attribute each is walked alone.
 use mathlib.Core.Path.{sym, ap, _∙_}
 use lib.Dec.{eqb}
 use borrow.Author.Tests.{ne-eqb}
 use Rattle.names.specs.Names.{attrP, rdnP}
 use Rattle.names.specs.Answers.{rdnBegun}
-use Rattle.same.specs.Same.{places, sameAttr, sameRdn}
+use Rattle.same.specs.Same.{sameRdn}
+use Rattle.same.specs.Matching.{matched}
+use Rattle.same.proofs.Beside.{one-each}
 use Rattle.same.proofs.Walks.{counted-fails, counted-same, no-count-left, no-count-right}
 use borrow.Author.Needs.{needs}
 use Rattle.same.proofs.walk.rdn_walk.Statement.{statement}
@@ -36,29 +38,46 @@ returns-2 : tie.Need-returns-2
 unfolding rdnP
 returns-2 c = sym (no-count-right (sameRdn _) attrP _ _ _ _ _ _ _ (sym (c .before .before .rdn-begins2 .ensures) ∙ ap rdnBegun (c .enum-told2 .given .1)))
 
-attrs-walk-requires : tie.Need-attrs-walk-requires
-attrs-walk-requires c κs = search needs
-
 returns-3 : tie.Need-returns-3
 unfolding rdnP sameRdn
 returns-3 c =
-    let b = c .before .before .before .before .before in
+    let b = c .before .before .before .before in
     let a = b .before .before .before .before in
-    c .attrs-walk .ensures
-    ∙ sym (counted-same (places (sameAttr _)) attrP _ _ _ _ _ _ _ _ _ _
+    sym (counted-fails eqb (matched _) attrP _ _ _ _ _ _ _ _ _ _
     (sym (a .before .before .rdn-begins .ensures) ∙ ap rdnBegun (a .a .given .1))
     (sym (b .before .before .rdn-begins2 .ensures) ∙ ap rdnBegun (b .b .given .1))
-    (c .before .if1 .taken))
+    (ne-eqb _ _ (c .if1 .taken)))
+
+attr-walk-requires : tie.Need-attr-walk-requires
+attr-walk-requires c κs = search needs
 
 returns-4 : tie.Need-returns-4
 unfolding rdnP sameRdn
 returns-4 c =
-    let b = c .before .before .before .before in
+    let j = c .before .before .before in
+    let b = j .before .before .before .before in
     let a = b .before .before .before .before in
-    sym (counted-fails eqb (places (sameAttr _)) attrP _ _ _ _ _ _ _ _ _ _
+    c .attr-walk .ensures
+    ∙ one-each _ _ _ _ _ _ (c .before .if2 .taken)
+    ∙ sym (counted-same (matched _) attrP _ _ _ _ _ _ _ _ _ _
     (sym (a .before .before .rdn-begins .ensures) ∙ ap rdnBegun (a .a .given .1))
     (sym (b .before .before .rdn-begins2 .ensures) ∙ ap rdnBegun (b .b .given .1))
-    (ne-eqb _ _ (c .if1 .left)))
+    (j .if1 .left))
+
+attrs-walk-requires : tie.Need-attrs-walk-requires
+attrs-walk-requires c κs = search needs
+
+returns-5 : tie.Need-returns-5
+unfolding rdnP sameRdn
+returns-5 c =
+    let j = c .before .before .before in
+    let b = j .before .before .before .before in
+    let a = b .before .before .before .before in
+    c .attrs-walk .ensures
+    ∙ sym (counted-same (matched _) attrP _ _ _ _ _ _ _ _ _ _
+    (sym (a .before .before .rdn-begins .ensures) ∙ ap rdnBegun (a .a .given .1))
+    (sym (b .before .before .rdn-begins2 .ensures) ∙ ap rdnBegun (b .b .given .1))
+    (j .if1 .left))
 
 pub rdn-walk-spec : {M : Type 1} → statement M
 rdn-walk-spec =
@@ -72,6 +91,8 @@ rdn-walk-spec =
     enum-known-b
     enum-told-2
     returns-2
-    attrs-walk-requires
     returns-3
-    returns-4)
+    attr-walk-requires
+    returns-4
+    attrs-walk-requires
+    returns-5)
