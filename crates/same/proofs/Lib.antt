@@ -1,7 +1,6 @@
 pub mod Abreast
 pub mod Alike
 pub mod Asked
-pub mod Beside
 pub mod Compared
 pub mod Counts
 pub mod Frauds

@@ -3,16 +3,17 @@
 -- Standing.antt.
 use Prim.Native.Nat.{ℕ, _-_, _<_, _≤_}
 use mathlib.Core.Path.{_≡_, refl}
-use mathlib.Core.Bool.{Bool, true, false, cond}
+use mathlib.Core.Bool.{Bool, true, false, cond, or-false, and-true}
 use mathlib.Core.List.{List, [], _∷_}
 use native.Mathlib.Omega.{arith}
-use Rattle.fields.specs.Fields.{Parsed, got, stop}
+use Rattle.fields.specs.Fields.{Parsed, got, stop, after, many}
 use Rattle.names.specs.Names.{Attr, attrP}
 use Rattle.same.specs.Same.{sameAttr}
-use Rattle.same.specs.Matching.{rdnHasName}
+use Rattle.same.specs.Matching.{rdnHasName, matched}
 use Rattle.same.specs.Rows.{with-rest, standing, hasRead}
 use Rattle.same.specs.Walks.{walk}
 use Rattle.same.specs.declared.walk.Walk.the-variants.{On, Differ}
+use Rattle.same.proofs.Upstream.{attr-turned}
 use Rattle.same.proofs.Standing.{standing-none, standing-some}
 
 module _ (normalise : Bool) where
@@ -64,3 +65,19 @@ module _ (normalise : Bool) where
   pub has-read : (l : List Attr) (x : Parsed Attr) (a : Attr) (e : ℕ) → x ≡ got a e → hasRead normalise l x ≡ rdnHasName normalise l a
   unfolding hasRead
   has-read l x a e h = rw h
+
+  -- ---- rows of one attribute each, which is sought in one place
+
+  pub one-each : (s t : List ℕ) (n at bt : ℕ) → n ≡ 1
+      → walk (sameAttr normalise) (attrP s at) (attrP t bt) ≡ walk (matched normalise) (many attrP n s at) (many attrP n t bt)
+  unfolding many
+  one-each s t n at bt h = rw h (go (attrP s at) (attrP t bt))
+    where
+      same-one : (a b : Attr) → sameAttr normalise a b ≡ matched normalise (a ∷ []) (b ∷ [])
+      same-one a b = rw (attr-turned normalise a b, or-false (sameAttr normalise b a), and-true (sameAttr normalise b a))
+
+      go : (x y : Parsed Attr)
+          → walk (sameAttr normalise) x y ≡ walk (matched normalise) (after x (λ a e. got (a ∷ []) e)) (after y (λ b f. got (b ∷ []) f))
+      go (got a e) (got b f) = rw (same-one a b)
+      go (got a e) (stop r) = refl
+      go (stop r) y = refl

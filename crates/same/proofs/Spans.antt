@@ -4,12 +4,10 @@
 use Prim.Native.Nat.{ℕ, _≤_}
 use mathlib.Core.Path.{_≡_, refl, sym, ap, _∙_}
 use mathlib.Core.Bool.{Bool, true, false, _||_}
-use mathlib.Core.List.{List, [], _∷_}
-use borrow.Author.Tests.{eq-eqb}
+use mathlib.Core.List.{List}
 use lib.ListN.{length}
 use Rattle.text.specs.Bytes.{same}
-use Rattle.text.specs.Normal.{normal}
-use Rattle.text.proofs.Same.{same-sound, same-refl}
+use Rattle.text.proofs.Same.{same-sound}
 use Rattle.fields.specs.Fields.{got}
 use Rattle.fields.specs.Spans.{bytesOf}
 use Rattle.fields.specs.declared.string.Span.{Span}

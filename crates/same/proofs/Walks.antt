@@ -42,31 +42,6 @@ walk-both q (got x e) (got y f) = through-test (q x y) e f
 walk-both q (got x e) (stop r) = refl
 walk-both q (stop r) y = refl
 
--- ---- what a walk tells of the two
-
--- a walk that came through: both can be read and are related
-pub record Met {A : Type 0} (q : A → A → Bool) (x y : Parsed A) (e f : ℕ) : Type 0 where
-  pub first : A
-  pub second : A
-  pub left : x ≡ got first e
-  pub right : y ≡ got second f
-  pub holds : q first second ≡ true
-
-module _ {A : Type 0} (q : A → A → Bool) where
-  pub walk-met : (x y : Parsed A) (e f : ℕ) → walk q x y ≡ On e f → Met q x y e f
-  walk-met (got a i) (got b j) e f w = go (q a b) refl w where
-    go : (t : Bool) → q a b ≡ t → cond t (On i j) Differ ≡ On e f → Met q (got a i) (got b j) e f
-    go true h k = record { first = a; second = b; left = cc; right = cc; holds = h }
-    go false h k = let z : _≡_ {A = ℕ} 0 1 = cc in absurd (omega arith)
-  walk-met (got a i) (stop r) e f w = let z : _≡_ {A = ℕ} 0 1 = cc in absurd (omega arith)
-  walk-met (stop r) y e f w = let z : _≡_ {A = ℕ} 0 1 = cc in absurd (omega arith)
-
-  pub walk-apart : (a b : A) (e f : ℕ) → walk q (got a e) (got b f) ≡ Differ → q a b ≡ false
-  walk-apart a b e f w = go (q a b) refl w where
-    go : (t : Bool) → q a b ≡ t → cond t (On e f) Differ ≡ Differ → q a b ≡ false
-    go true h k = let z : _≡_ {A = ℕ} 0 1 = cc in absurd (omega arith)
-    go false h k = h
-
 -- ---- rows of n things
 
 module _ {A : Type 0} (q : A → A → Bool) where
@@ -143,19 +118,13 @@ module _ {A : Type 0} (test : ℕ → ℕ → Bool) (q : List A → List A → B
     unfolding countedP
     counted-fails i = rw (h, k) (by-length n m e f false i _ _ refl refl)
 
--- from the places past their counts on, whatever relates the rows
-pub counted-on : {A : Type 0} (q : List A → List A → Bool) (p : List ℕ → ℕ → Parsed A) (s t : List ℕ) (least most at bt n m e f : ℕ)
-    → countP least most s at ≡ got n e → countP least most t bt ≡ got m f → n ≡ m
-    → walk q (countedP least most p s at) (countedP least most p t bt) ≡ walk q (many p n s e) (many p n t f)
-unfolding countedP
-counted-on q p s t least most at bt n m e f h k i = rw (h, k, ← i)
-
--- the same of rows of as many
+-- as many, from the places past their counts on
 pub counted-same : {A : Type 0} (q : List A → List A → Bool) (p : List ℕ → ℕ → Parsed A) (s t : List ℕ) (least most at bt n m e f : ℕ)
     → countP least most s at ≡ got n e → countP least most t bt ≡ got m f → n ≡ m
     → walk (tested eqb q) (countedP least most p s at) (countedP least most p t bt) ≡ walk q (many p n s e) (many p n t f)
+unfolding countedP
 counted-same q p s t least most at bt n m e f h k i =
-    counted-passes eqb q p s t least most at bt n m e f h k (eq-eqb n m i) ∙ counted-on q p s t least most at bt n m e f h k i
+    counted-passes eqb q p s t least most at bt n m e f h k (eq-eqb n m i) ∙ rw (h, k, ← i)
 
 -- ---- a count that can't be read, whatever relates the rows
 

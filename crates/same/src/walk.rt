@@ -1,5 +1,5 @@
 // Two attributes, RDNs or names walked side by side.
-use crate::matching::attrs_walk;
+use crate::matching::matched_walk;
 use crate::values::same_normal;
 use fields::Span;
 use fields::part;
@@ -96,7 +96,7 @@ pub(crate) fn rdn_walk(s: &[u8], at: usize, t: &[u8], bt: usize, normalise: bool
     if a.count == 1 {
         return attr_walk(s, a.first, t, b.first, normalise);
     }
-    attrs_walk(s, a.first, t, b.first, a.count, normalise)
+    matched_walk(s, at, t, bt, normalise)
 }
 
 // The attributes at two places.

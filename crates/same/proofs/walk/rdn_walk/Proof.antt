@@ -1,13 +1,13 @@
 -- `rdn_walk` walks the attributes of two RDNs, which differ where their counts do; one attribute each is walked alone.
 use mathlib.Core.Path.{sym, ap, _∙_}
 use lib.Dec.{eqb}
-use borrow.Author.Tests.{ne-eqb}
+use borrow.Author.Tests.{eq-eqb, ne-eqb}
 use Rattle.names.specs.Names.{attrP, rdnP}
 use Rattle.names.specs.Answers.{rdnBegun}
 use Rattle.same.specs.Same.{sameRdn}
 use Rattle.same.specs.Matching.{matched}
-use Rattle.same.proofs.Beside.{one-each}
-use Rattle.same.proofs.Walks.{counted-fails, counted-same, no-count-left, no-count-right}
+use Rattle.same.proofs.Members.{one-each}
+use Rattle.same.proofs.Walks.{counted-passes, counted-fails, counted-same, no-count-left, no-count-right}
 use borrow.Author.Needs.{needs}
 use Rattle.same.proofs.walk.rdn_walk.Statement.{statement}
 use Rattle.same.proofs.walk.rdn_walk.Tie as tie
@@ -64,8 +64,8 @@ returns-4 c =
     (sym (b .before .before .rdn-begins2 .ensures) ∙ ap rdnBegun (b .b .given .1))
     (j .if1 .left))
 
-attrs-walk-requires : tie.Need-attrs-walk-requires
-attrs-walk-requires c κs = search needs
+matched-walk-requires : tie.Need-matched-walk-requires
+matched-walk-requires c κs = search needs
 
 returns-5 : tie.Need-returns-5
 unfolding rdnP sameRdn
@@ -73,11 +73,11 @@ returns-5 c =
     let j = c .before .before .before in
     let b = j .before .before .before .before in
     let a = b .before .before .before .before in
-    c .attrs-walk .ensures
-    ∙ sym (counted-same (matched _) attrP _ _ _ _ _ _ _ _ _ _
+    c .matched-walk .ensures
+    ∙ sym (counted-passes eqb (matched _) attrP _ _ _ _ _ _ _ _ _ _
     (sym (a .before .before .rdn-begins .ensures) ∙ ap rdnBegun (a .a .given .1))
     (sym (b .before .before .rdn-begins2 .ensures) ∙ ap rdnBegun (b .b .given .1))
-    (j .if1 .left))
+    (eq-eqb _ _ (j .if1 .left)))
 
 pub rdn-walk-spec : {M : Type 1} → statement M
 rdn-walk-spec =
@@ -94,5 +94,5 @@ rdn-walk-spec =
     returns-3
     attr-walk-requires
     returns-4
-    attrs-walk-requires
+    matched-walk-requires
     returns-5)
