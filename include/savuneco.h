@@ -131,10 +131,11 @@ uint8_t savuneco_ip_addr_in_range(const uint8_t *range, size_t range_len, const 
 /* Two attributes: equal OIDs and equal values. */
 uint8_t savuneco_same_attr(const uint8_t *a, size_t a_len, const uint8_t *b, size_t b_len, uint8_t normalise);
 
-/* Two RDNs: as many attributes, the same place by place. */
+/* Two RDNs: as many attributes, and each of a has a match in b, wherever it stands (RFC 5280, 7.1). Which is first can decide where
+   attributes repeat: (x, x) is the same as (x, y), and (x, y) is not the same as (x, x). */
 uint8_t savuneco_same_rdn(const uint8_t *a, size_t a_len, const uint8_t *b, size_t b_len, uint8_t normalise);
 
-/* Two names: as many RDNs, the same place by place. */
+/* Two names: as many RDNs, each of a the same as the one at its place in b, in that direction. */
 uint8_t savuneco_same_dn(const uint8_t *a, size_t a_len, const uint8_t *b, size_t b_len, uint8_t normalise);
 
 /* An RDN a and an attribute b: some attribute of the RDN is the same as b. */

@@ -1,8 +1,9 @@
-//! Holds the library and the terminal to the reference, on files of its own making, on damaged samples or on pairs of values.
+//! Holds the library and the terminal to the reference, on files of its own making, on damaged samples or on pairs of values or RDNs.
 //!
 //! compare OUT SEED COUNT [-- TERMINAL..]   OUT: where files that are answered differently are kept
 //! compare OUT damage CARD..
 //! compare OUT values
+//! compare OUT rdns
 //! compare OUT make SEED NUMBER             writes that file of the seed to standard output
 
 mod draft;
@@ -12,6 +13,7 @@ mod houses;
 mod library;
 mod plans;
 mod random;
+mod rdns;
 mod tally;
 mod terminal;
 mod values;
@@ -50,9 +52,10 @@ fn main() -> ExitCode {
     let answer = match own[..] {
         [_, "make", seed, number] => write_file(seed, number),
         [out, "damage", ref cards @ ..] => damage_run(Run::new(out), cards),
-        [_, "values"] => Ok(values_run()),
+        [_, "values"] => Ok(pairs_run(values::compare)),
+        [_, "rdns"] => Ok(pairs_run(rdns::compare)),
         [out, seed, count] => seed_run(Run::new(out), seed, count, program),
-        _ => Err("usage: compare SEED COUNT | damage | values | make SEED NUMBER".into()),
+        _ => Err("usage: compare SEED COUNT | damage | values | rdns | make SEED NUMBER".into()),
     };
     answer.unwrap_or_else(|message| {
         eprintln!("compare: {message}");
@@ -109,8 +112,8 @@ fn damage_run(mut run: Run, cards: &[&str]) -> Result<ExitCode, String> {
     Ok(run.end())
 }
 
-fn values_run() -> ExitCode {
-    let (passed, failed) = values::compare();
+fn pairs_run(compare: fn() -> (u64, u64)) -> ExitCode {
+    let (passed, failed) = compare();
     ended(passed, failed)
 }
 

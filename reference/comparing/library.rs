@@ -70,6 +70,20 @@ extern "C" {
         b_len: usize,
         normalise: u8,
     ) -> u8;
+    fn savuneco_same_rdn(
+        a: *const u8,
+        a_len: usize,
+        b: *const u8,
+        b_len: usize,
+        normalise: u8,
+    ) -> u8;
+    fn savuneco_is_subtree_rdn(
+        a: *const u8,
+        a_len: usize,
+        b: *const u8,
+        b_len: usize,
+        normalise: u8,
+    ) -> u8;
 }
 
 /// What a call answered, and the bytes that it left in the lent room and on both sides of it.
@@ -118,6 +132,23 @@ pub fn same_by_library(a: &[u8], b: &[u8]) -> u8 {
     let (a, b) = (encoded(a), encoded(b));
     // SAFETY: each pointer is valid for its length.
     unsafe { savuneco_same_attr(a.as_ptr(), a.len(), b.as_ptr(), b.len(), 1) }
+}
+
+/// What is answered of two encoded RDNs: whether the first is the same as the second, and whether it lies under it.
+pub fn rdns_by_library(a: &[u8], b: &[u8], normalise: bool) -> (u8, u8) {
+    let asked = |question: unsafe extern "C" fn(*const u8, usize, *const u8, usize, u8) -> u8| {
+        // SAFETY: each pointer is valid for its length.
+        unsafe {
+            question(
+                a.as_ptr(),
+                a.len(),
+                b.as_ptr(),
+                b.len(),
+                u8::from(normalise),
+            )
+        }
+    };
+    (asked(savuneco_same_rdn), asked(savuneco_is_subtree_rdn))
 }
 
 pub fn task_by_library(file: &[u8]) -> Asked {

@@ -50,6 +50,12 @@ impl Random {
         from[self.below(from.len())]
     }
 
+    pub fn shuffle<T>(&mut self, all: &mut [T]) {
+        for at in 1..all.len() {
+            all.swap(at, self.within(0..=at));
+        }
+    }
+
     /// One of the choices, each as often as the number beside it says.
     pub fn weighed<T: Copy>(&mut self, choices: &[(usize, T)]) -> T {
         let all = choices.iter().map(|(weight, _)| weight).sum();

@@ -46,10 +46,14 @@ pub fn name_of(entity: usize, dress: Dress) -> Name {
     match dress {
         Dress::Bare if entity == 0 => vec![],
         Dress::Bare => vec![vec![(vec![1], vec![b'A' + (entity % 26) as u8])]],
-        Dress::Plain => vec![
+        Dress::Plain if entity % 2 == 0 => vec![
             country,
             vec![attribute(HOUSE, house)],
             vec![attribute(COMMON, &common)],
+        ],
+        Dress::Plain => vec![
+            country,
+            vec![attribute(HOUSE, house), attribute(COMMON, &common)],
         ],
         Dress::Rich => vec![
             country,
@@ -65,7 +69,8 @@ pub fn name_of(entity: usize, dress: Dress) -> Name {
     }
 }
 
-/// The same name to `same_dn`, written in another way; one in a hundred is a near miss.
+/// The same name to `same_dn`, written in another way. One in fifty has an attribute repeated in another's place, which is still the same
+/// where it comes first and no longer where it comes second; one in a hundred is a near miss.
 pub fn varied(random: &mut Random, name: &Name) -> Name {
     let mut name = name.clone();
     let wholly = random.chance(20);
@@ -79,10 +84,28 @@ pub fn varied(random: &mut Random, name: &Name) -> Name {
             _ => {}
         }
     }
+    for rdn in &mut name {
+        if random.chance(30) {
+            random.shuffle(rdn);
+        }
+    }
+    if random.chance(2) {
+        repeat(random, &mut name);
+    }
     if !name.is_empty() && random.chance(1) {
         miss(random, &mut name);
     }
     name
+}
+
+/// Puts an attribute in the place of another of its RDN.
+fn repeat(random: &mut Random, name: &mut Name) {
+    let several = name.iter_mut().filter(|rdn| rdn.len() > 1);
+    for rdn in several {
+        let again = rdn[random.below(rdn.len())].clone();
+        let place = random.below(rdn.len());
+        rdn[place] = again;
+    }
 }
 
 fn flip_cases(random: &mut Random, value: &mut [u8]) {
@@ -128,7 +151,7 @@ fn miss(random: &mut Random, name: &mut Name) {
         2 => value.push(0xE9),
         3 => flip_neighbours(value),
         4 => oid.push(0),
-        5 => name[rdn].reverse(),
+        5 => name[rdn].truncate(1),
         6 => name[rdn].push(attribute(UNIT, "")),
         7 => name.reverse(),
         8 => name.push(vec![attribute(UNIT, "")]),

@@ -16,7 +16,8 @@ pub extern "C" fn savuneco_same_attr(a: &[u8], b: &[u8], normalise: u8) -> u8
     same::same_attr(a, b, normalise != 0).number()
 }
 
-// As many attributes, the same place by place.
+// As many attributes, and each of the first RDN has a match in the second. Which is first can decide: (a, a) is the same as (a, b), and
+// (a, b) is not the same as (a, a).
 #[no_mangle]
 pub extern "C" fn savuneco_same_rdn(a: &[u8], b: &[u8], normalise: u8) -> u8
     ensures { λ r. ⌜ r ≡ asked (sameRdn (flagged normalise)) (whole rdnP (now (a .entry))) (whole rdnP (now (b .entry))) ⌝ }
@@ -24,7 +25,7 @@ pub extern "C" fn savuneco_same_rdn(a: &[u8], b: &[u8], normalise: u8) -> u8
     same::same_rdn(a, b, normalise != 0).number()
 }
 
-// As many RDNs, the same place by place.
+// As many RDNs, each of the first name the same as the one at its place in the second, in that direction.
 #[no_mangle]
 pub extern "C" fn savuneco_same_dn(a: &[u8], b: &[u8], normalise: u8) -> u8
     ensures { λ r. ⌜ r ≡ asked (sameDn (flagged normalise)) (whole nameP (now (a .entry))) (whole nameP (now (b .entry))) ⌝ }

@@ -14,7 +14,7 @@ unfoldable pub keysFit : Certificate → Certificate → Bool
 keysFit issuer subject =
     checkAuthKeyId (subject .authority-key-id) (subject .authority-serial) (issuer .subject-key-id) (issuer .serial)
 
--- subject's issuer name and issuer's subject name are the same, normalised, and the key identifiers fit
+-- the subject's issuer name, which comes first, is the same as the issuer's subject name, normalised, and the key identifiers fit
 unfoldable pub likelyIssued : Certificate → Certificate → Bool
 likelyIssued issuer subject = sameDn true (subject .issuer) (issuer .subject) && keysFit issuer subject
 

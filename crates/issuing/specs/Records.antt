@@ -24,6 +24,7 @@ claimOf s subject =
     let ids = keyIdsOf flags subject s in
     record { flags = flags; «key_id» = ids .authority; serial = ids .«authority_serial»; name = issuerSpan subject }
 
+-- the subject's issuer name comes first
 unfoldable pub likelyIssuedAt : List ℕ → Record → Record → Bool
 likelyIssuedAt s issuer subject =
     sameNames true (issuerSpan subject) (subjectSpan issuer) s && keysFit (certificateOf issuer s) (certificateOf subject s)

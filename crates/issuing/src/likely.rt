@@ -36,7 +36,8 @@ pub(crate) fn claim_of(file: &[u8], subject: Record) -> Claim
     }
 }
 
-// Whether an issuer is the one that a claim speaks of: its key ids fit, and its subject name is the name, normalised.
+// Whether an issuer is the one that a claim speaks of: its key ids fit, and the claim's name is the same as its subject name, normalised.
+// The claim's name comes first, which decides where attributes repeat.
 pub(crate) fn fits(file: &[u8], issuer: Record, claim: Claim) -> bool
     ensures { λ r. ⌜ ((subject : Record) → claim ≡ claimOf (now (file .entry)) subject → r ≡ likelyIssuedAt (now (file .entry)) issuer subject) ⌝ }
 {

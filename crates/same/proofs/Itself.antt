@@ -16,7 +16,7 @@ use Rattle.same.specs.Matching.{sameAttr}
 use Rattle.same.specs.Answers.{asked}
 use Rattle.same.proofs.Upstream.{rdn-upstream}
 
-pub attr-refl : (n : Bool) (a : Attr) → sameAttr n a a ≡ true
+attr-refl : (n : Bool) (a : Attr) → sameAttr n a a ≡ true
 unfolding sameAttr
 attr-refl true a = rw (same-refl (a .oid), same-refl (normal (a .value)))
 attr-refl false a = rw (same-refl (a .oid), same-refl (a .value))

@@ -33,7 +33,7 @@ bothRead q (stop r) b = false
 bothRead q (got x e) (stop r) = false
 bothRead q (got x e) (got y f) = q x y
 
--- the names at two spans: the same bytes, or both can be read and are the same
+-- the name at the first span is the same as the one at the second: the same bytes, or both can be read and are the same in that direction
 unfoldable pub sameNames : Bool → Span → Span → List ℕ → Bool
 sameNames normalise a b s =
     same (bytesOf a s) (bytesOf b s) || bothRead (sameDn normalise) (nameP s (a .start)) (nameP s (b .start))

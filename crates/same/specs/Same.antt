@@ -5,10 +5,11 @@
 use Prim.Native.Nat.{ℕ}
 use mathlib.Core.Path.{_≡_, refl}
 use mathlib.Core.Bool.{Bool, true, false, _&&_}
-use mathlib.Core.List.{List, [], _∷_}
+use mathlib.Core.List.{List, [], _∷_, flatMap}
 use lib.ListN.{length}
 use lib.Dec.{eqb}
 use Rattle.text.specs.Bytes.{same}
+use Rattle.text.specs.Normal.{pieces, wordsOf, normal}
 use Rattle.names.specs.Names.{Attr}
 use Rattle.same.specs.Matching.{matched}
 unfoldable pub use Rattle.same.specs.Matching.{sameAttr}
@@ -28,11 +29,13 @@ sameRdn normalise a b = eqb (length a) (length b) && matched normalise a b
 abbrev lone : ℕ → Attr
 lone oid = record { oid = oid ∷ []; value = [] }
 
-pub one-way : (sameRdn false (lone 97 ∷ lone 97 ∷ []) (lone 97 ∷ lone 98 ∷ []) ≡ true)
-    × (sameRdn false (lone 97 ∷ lone 98 ∷ []) (lone 97 ∷ lone 97 ∷ []) ≡ false)
-unfolding sameRdn sameAttr same
-one-way = (refl, refl)
+pub one-way : (normalise : Bool)
+    → (sameRdn normalise (lone 97 ∷ lone 97 ∷ []) (lone 97 ∷ lone 98 ∷ []) ≡ true)
+    × (sameRdn normalise (lone 97 ∷ lone 98 ∷ []) (lone 97 ∷ lone 97 ∷ []) ≡ false)
+unfolding sameRdn sameAttr same normal wordsOf pieces flatMap
+one-way true = (refl, refl)
+one-way false = (refl, refl)
 
--- as many RDNs, the same place by place
+-- as many RDNs, each of the first the same as the one at its place in the second
 unfoldable pub sameDn : Bool → List (List Attr) → List (List Attr) → Bool
 sameDn normalise a b = eqb (length a) (length b) && places (sameRdn normalise) a b

@@ -62,7 +62,8 @@ pub fn same_attr(a: &[u8], b: &[u8], normalise: bool) -> Related
     Related::of(attr_walk(a, 0, b, 0, normalise))
 }
 
-// As many attributes, the same place by place.
+// As many attributes, and each of the first RDN has a match in the second. Which is first can decide: (a, a) is the same as (a, b), and
+// (a, b) is not the same as (a, a).
 pub fn same_rdn(a: &[u8], b: &[u8], normalise: bool) -> Related
     ensures { λ r. ⌜ said r ≡ asked (sameRdn normalise) (whole rdnP (now (a .entry))) (whole rdnP (now (b .entry))) ⌝ }
 {
@@ -75,7 +76,7 @@ pub fn same_rdn(a: &[u8], b: &[u8], normalise: bool) -> Related
     Related::of(rdn_walk(a, 0, b, 0, normalise))
 }
 
-// As many RDNs, the same place by place.
+// As many RDNs, each of the first name the same as the one at its place in the second, in that direction.
 pub fn same_dn(a: &[u8], b: &[u8], normalise: bool) -> Related
     ensures { λ r. ⌜ said r ≡ asked (sameDn normalise) (whole nameP (now (a .entry))) (whole nameP (now (b .entry))) ⌝ }
 {

@@ -25,7 +25,8 @@ pub enum Walk {
     Differ,
 }
 
-// Whether the names at two spans of a file are the same: the same bytes are, and where they differ both are walked once.
+// Whether the name at a span of a file is the same as the one at another, in that direction: the same bytes are, and where they differ both
+// are walked once.
 pub fn same_names(file: &[u8], a: Span, b: Span, normalise: bool) -> bool
     ensures { λ r. ⌜ r ≡ sameNames normalise a b (now (file .entry)) ⌝ }
 {
@@ -42,7 +43,7 @@ pub fn same_names(file: &[u8], a: Span, b: Span, normalise: bool) -> bool
     }
 }
 
-// The names at two places: as many RDNs, the same place by place.
+// The names at two places: as many RDNs, each of the first the same as the one at its place in the second.
 pub(crate) fn dn_walk(s: &[u8], at: usize, t: &[u8], bt: usize, normalise: bool) -> Walk
     ensures { λ r. ⌜ r ≡ walk (sameDn normalise) (nameP (now (s .entry)) at) (nameP (now (t .entry)) bt) ⌝ }
 {
