@@ -1,7 +1,9 @@
 //! Makes card files: certificates in plain Rust values, and the bytes that stand for them (docs/CARD-FILE.md, "Layout").
 
-/// RDNs of one attribute each: an OID and a value.
-pub type Name = Vec<(&'static [u8], String)>;
+pub type Name = Vec<Rdn>;
+
+/// Attributes, each an OID and a value.
+pub type Rdn = Vec<(&'static [u8], String)>;
 
 #[derive(Clone, Default)]
 pub struct Certificate {
@@ -95,9 +97,11 @@ fn put_string(file: &mut Vec<u8>, bytes: &[u8]) {
 
 fn put_name(file: &mut Vec<u8>, name: &Name) {
     file.push(name.len() as u8);
-    for (oid, value) in name {
-        file.push(1);
-        put_string(file, oid);
-        put_string(file, value.as_bytes());
+    for rdn in name {
+        file.push(rdn.len() as u8);
+        for (oid, value) in rdn {
+            put_string(file, oid);
+            put_string(file, value.as_bytes());
+        }
     }
 }

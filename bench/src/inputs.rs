@@ -25,10 +25,10 @@ const HOUSES: [&str; 6] = [
 fn ca_name(house: usize, common: &str) -> Name {
     let name = HOUSES[house % HOUSES.len()];
     vec![
-        (COUNTRY, "NL".into()),
-        (ORGANISATION, name.into()),
-        (UNIT, format!("{name} Certification Services")),
-        (COMMON, common.into()),
+        vec![(COUNTRY, "NL".into())],
+        vec![(ORGANISATION, name.into())],
+        vec![(UNIT, format!("{name} Certification Services"))],
+        vec![(COMMON, common.into())],
     ]
 }
 
@@ -66,7 +66,7 @@ fn leaf(issuer: Name, issuer_key: usize) -> Certificate {
     let names = ["www", "orders", "catalogue", "proofs", "*"];
     Certificate {
         serial: bytes(2000, 16),
-        subject: vec![(COMMON, HOST.into())],
+        subject: vec![vec![(COMMON, HOST.into())]],
         issuer,
         authority_key_id: bytes(issuer_key, 20),
         subject_key_id: bytes(3000, 20),
@@ -100,18 +100,38 @@ fn between_key(at: usize) -> usize {
 }
 
 /// The same name by normal form only: the case of every letter is turned, and for each space there are two.
-fn respelt(name: Name) -> Name {
-    name.into_iter()
-        .map(|(oid, value)| (oid, turned(&value).replace(' ', "  ")))
-        .collect()
+fn respelt(mut name: Name) -> Name {
+    for (_, value) in name.iter_mut().flatten() {
+        *value = other_case(value).replace(' ', "  ");
+    }
+    name
 }
 
-fn turned(value: &str) -> String {
+fn other_case(value: &str) -> String {
     let turn = |letter: char| match letter.is_ascii_uppercase() {
         true => letter.to_ascii_lowercase(),
         false => letter.to_ascii_uppercase(),
     };
     value.chars().map(turn).collect()
+}
+
+/// The same attributes, two in an RDN.
+fn paired(name: Name) -> Name {
+    name.chunks(2).map(|pair| pair.concat()).collect()
+}
+
+/// The same name by another order in each RDN.
+fn turned(mut name: Name) -> Name {
+    name.iter_mut().for_each(|rdn| rdn.reverse());
+    name
+}
+
+/// How a certificate writes its own name beside its issuer's.
+#[derive(Clone, Copy)]
+pub enum Own {
+    Alike,
+    Respelt,
+    Turned,
 }
 
 /// What a file is made of in which all certificates have one name, and so are all compared where signatures hold.
@@ -120,18 +140,18 @@ pub struct Alike {
     pub certificates: usize,
     pub roots: usize,
     pub signed: bool,
-    /// Whether a certificate spells its own name otherwise than its issuer's.
-    pub respelt: bool,
+    pub own: Own,
     pub budget: u64,
 }
 
 pub fn alike(wanted: Alike) -> Vec<u8> {
-    let name = || between_name(0);
-    let own = || match wanted.respelt {
-        true => respelt(name()),
-        false => name(),
+    let name = between_name(0);
+    let (own, issuer) = match wanted.own {
+        Own::Alike => (name.clone(), name),
+        Own::Respelt => (respelt(name.clone()), name),
+        Own::Turned => (turned(paired(name.clone())), paired(name)),
     };
-    let each = || authority(own(), 100, name(), 100);
+    let each = || authority(own.clone(), 100, issuer.clone(), 100);
     let card = Card {
         roots: (0..wanted.roots).map(|_| each()).collect(),
         bundle: (0..wanted.certificates).map(|_| each()).collect(),
@@ -149,7 +169,7 @@ pub fn complete(certificates: usize, budget: u64) -> Vec<u8> {
         certificates,
         roots: 0,
         signed: true,
-        respelt: false,
+        own: Own::Alike,
         budget,
     })
 }

@@ -131,7 +131,7 @@ fn same_rdns(mut a: &[u8], mut b: &[u8]) -> bool {
 type Attribute<'a> = (&'a [u8], &'a [u8]);
 
 fn same_attribute(x: Attribute, y: Attribute) -> bool {
-    x.0 == y.0 && normal(x.1).eq(normal(y.1))
+    x.0 == y.0 && (x.1 == y.1 || normal(x.1).eq(normal(y.1)))
 }
 
 /// Whether an attribute has a match among so many; of one it has been compared with that one already.

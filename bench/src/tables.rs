@@ -1,7 +1,8 @@
 //! The tables that are printed. A time stands in one only after the versions that it compares have answered alike.
 
+use crate::answer::Answer;
 use crate::clock::{agreed, times, Job};
-use crate::inputs::{self, Alike, Ordinary, HOST};
+use crate::inputs::{self, Alike, Ordinary, Own, HOST};
 use crate::versions::{
     Version, BEFORE, DEPTHS, LEAN, LIBRARY, ORDINARY, PACKED, TUNED, UNCHECKED, UPSTREAM,
 };
@@ -24,8 +25,14 @@ const RESPELT: Alike = Alike {
     certificates: 16,
     roots: 32,
     signed: true,
-    respelt: true,
+    own: Own::Respelt,
     budget: 1,
+};
+
+/// As many, each the same by another order of attributes only.
+const TURNED: Alike = Alike {
+    own: Own::Turned,
+    ..RESPELT
 };
 
 /// Whole answers, from the bytes of the file: the library's time, and its ratio to each other version.
@@ -37,6 +44,7 @@ pub fn beside(lasting: Duration) {
         lasting,
     );
     row("names respelt", &inputs::alike(RESPELT), lasting);
+    row_after("attributes turned", &inputs::alike(TURNED), lasting);
     let mut whole = vec![0.0; ALL.len()];
     for (name, file) in ordinary_files() {
         let times = row(&name, &file, lasting);
@@ -91,14 +99,27 @@ fn ordinary_files() -> Vec<(String, Vec<u8>)> {
 fn row(name: &str, file: &[u8], lasting: Duration) -> Vec<f64> {
     let answer = agreed(file, &ALL);
     let times = times(&jobs(file, &ALL), lasting);
+    told(name, file, &answer, &times);
+    times
+}
+
+/// A row on a file that earlier commits answered otherwise: before is not timed.
+fn row_after(name: &str, file: &[u8], lasting: Duration) {
+    let others = [&ALL[..1], &ALL[2..]].concat();
+    let answer = agreed(file, &others);
+    let mut times = times(&jobs(file, &others), lasting);
+    times.insert(1, f64::NAN);
+    told(name, file, &answer, &times);
+}
+
+fn told(name: &str, file: &[u8], answer: &Answer, times: &[f64]) {
     println!(
         "| {name} | {} | {} | {} | {} |",
         file.len(),
         answer.number,
         answer.steps,
-        ratios(&times, micros)
+        ratios(times, micros)
     );
-    times
 }
 
 fn jobs<'a>(file: &'a [u8], versions: &[&'a Version]) -> Vec<Job<'a>> {
@@ -106,11 +127,12 @@ fn jobs<'a>(file: &'a [u8], versions: &[&'a Version]) -> Vec<Job<'a>> {
     versions.iter().map(job).collect()
 }
 
-/// The first time as it is, and its ratio to each of the others.
+/// The first time as it is, and its ratio to each of the others that was taken.
 fn ratios(times: &[f64], shown: fn(f64) -> String) -> String {
-    let others = times[1..]
-        .iter()
-        .map(|time| format!("{:.2}", times[0] / time));
+    let others = times[1..].iter().map(|time| match time.is_nan() {
+        true => "–".into(),
+        false => format!("{:.2}", times[0] / time),
+    });
     let cells: Vec<String> = std::iter::once(shown(times[0])).chain(others).collect();
     cells.join(" | ")
 }
@@ -185,13 +207,17 @@ pub fn issuing(lasting: Duration) {
     );
     for certificates in [4, 8, 16] {
         for roots in [1, 8, 32] {
-            let kinds = [(true, false), (true, true), (false, false)];
-            let taken = kinds.map(|(signed, respelt)| {
+            let kinds = [
+                (true, Own::Alike),
+                (true, Own::Respelt),
+                (false, Own::Alike),
+            ];
+            let taken = kinds.map(|(signed, own)| {
                 let file = inputs::alike(Alike {
                     certificates,
                     roots,
                     signed,
-                    respelt,
+                    own,
                     budget: 0,
                 });
                 let past_reading = difference(&left_over(file.clone()), &file, &CLOSE, lasting);

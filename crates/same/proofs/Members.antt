@@ -1,7 +1,8 @@
 -- An attribute looked for among those that stand in a row: found at the first (`has-here`), not at the first (`has-further`), or nothing is
--- left to look at (`has-stopped`, `has-none`). For the loops of src/matching.rt; what looking comes to: specs/Rows.antt; the row itself:
--- Standing.antt.
-use Prim.Native.Nat.{ℕ, _-_, _<_, _≤_}
+-- left to look at (`has-stopped`, `has-none`); then a row each of whose attributes is looked for so (`sought-first`, `sought-stops`,
+-- `sought-none`), and rows of one attribute (`one-each`). For src/matching.rt and `rdn_walk`; what looking comes to: specs/Rows.antt; the row
+-- itself: Standing.antt.
+use Prim.Native.Nat.{ℕ, zero, suc, _-_, _<_, _≤_}
 use mathlib.Core.Path.{_≡_, refl}
 use mathlib.Core.Bool.{Bool, true, false, cond, or-false, and-true}
 use mathlib.Core.List.{List, [], _∷_}
@@ -65,6 +66,37 @@ module _ (normalise : Bool) where
   pub has-read : (l : List Attr) (x : Parsed Attr) (a : Attr) (e : ℕ) → x ≡ got a e → hasRead normalise l x ≡ rdnHasName normalise l a
   unfolding hasRead
   has-read l x a e h = rw h
+
+  -- ---- a row whose attributes are sought in another, and a loop that counts it down
+
+  module _ (row : List Attr) (right : ℕ) (s : List ℕ) where
+    first-sought : (x : Attr) (t : Bool) → rdnHasName normalise row x ≡ t → (l : Parsed (List Attr))
+        → walk (matched normalise) (after l (λ k e. got (x ∷ k) e)) (got row right)
+        ≡ cond t (walk (matched normalise) l (got row right)) Differ
+    first-sought x true h (got l e) = rw h
+    first-sought x true h (stop r) = refl
+    first-sought x false h (got l e) = rw h
+    first-sought x false h (stop r) = refl
+
+    pub sought-none : (rest at : ℕ) → rest ≤ 0 → walk (matched normalise) (many attrP rest s at) (got row right) ≡ On at right
+    unfolding many
+    sought-none zero at h = refl
+    sought-none (suc n) at h = absurd (omega arith)
+
+    pub sought-first : (rest at : ℕ) → 0 < rest → (x : Attr) (e : ℕ) → attrP s at ≡ got x e → (t : Bool) → rdnHasName normalise row x ≡ t
+        → walk (matched normalise) (many attrP rest s at) (got row right)
+        ≡ cond t (walk (matched normalise) (many attrP (rest - 1) s e) (got row right)) Differ
+    unfolding many
+    sought-first zero at h x e k t i = absurd (omega arith)
+    sought-first (suc n) at h x e k t i =
+        let z : suc n - 1 ≡ n = omega arith in
+        rw (z, k) (first-sought x t i (many attrP n s e))
+
+    pub sought-stops : (rest at : ℕ) → 0 < rest → (r : ℕ) → attrP s at ≡ stop r
+        → walk (matched normalise) (many attrP rest s at) (got row right) ≡ Differ
+    unfolding many
+    sought-stops zero at h r k = absurd (omega arith)
+    sought-stops (suc n) at h r k = rw k
 
   -- ---- rows of one attribute each, which is sought in one place
 

@@ -1,8 +1,8 @@
--- Rows with their counts before them: what a row that was read holds (`row-read`, of an RDN `rdn-row`), and whether what stands in two of
--- them is related (`standing-judged`). For `matched_walk` and subtree; a row up to the first thing that can't be read: Standing.antt.
+-- Rows with their counts before them: what a row that was read holds (`row-read`, of an RDN `rdn-row`), and another row walked beside what
+-- stands in it (`standing-beside`). For `matched_walk` and subtree; a row up to the first thing that can't be read: Standing.antt.
 use Prim.Native.Nat.{ℕ}
 use mathlib.Core.Path.{_≡_, refl, sym, ap, _∙_}
-use mathlib.Core.Bool.{Bool, cond}
+use mathlib.Core.Bool.{Bool}
 use mathlib.Core.List.{List}
 use native.Mathlib.Omega.{arith}
 use lib.ListN.{length}
@@ -16,7 +16,6 @@ use Rattle.names.specs.declared.read.RdnAt.{RdnAt}
 use Rattle.names.specs.declared.read.RdnAt.the-variants as rdn
 use Rattle.same.specs.Rows.{Fine, standing}
 use Rattle.same.specs.Walks.{walk}
-use Rattle.same.specs.declared.walk.Walk.the-variants.{On, Differ}
 use Rattle.same.proofs.Standing.{standing-whole}
 
 -- ---- what the place past a thing tells of the thing
@@ -60,14 +59,11 @@ pub rdn-row : (s : List ℕ) (at : ℕ) (r : RdnAt) (a : Rdn) (e : ℕ) → rdnB
 unfolding rdnP
 rdn-row s at r a e h k u = row-read 1 rdnMost attrP s at _ _ (sym h ∙ ap rdnBegun k) (passing-fine (rdnP s at) e u)
 
--- ---- two rows
+-- ---- a row beside another
 
-module _ {A : Type 0} {least most : ℕ} {p : List ℕ → ℕ → Parsed A} {s t : List ℕ} {at bt n f m g : ℕ}
-    (x : Row least most p s at n f) (y : Row least most p t bt m g) where
-  pub standing-judged : (q : List A → List A → Bool) (e i : ℕ)
-      → passing (countedP least most p s at) ≡ got tt e → passing (countedP least most p t bt) ≡ got tt i
-      → walk q (countedP least most p s at) (countedP least most p t bt) ≡ cond (q (standing p n s f) (standing p m t g)) (On e i) Differ
-  standing-judged q e i u v =
-      let j : x .end ≡ e = cc (x .whole) in
+module _ {A : Type 0} {least most : ℕ} {p : List ℕ → ℕ → Parsed A} {t : List ℕ} {bt m g : ℕ} (y : Row least most p t bt m g) where
+  pub standing-beside : (q : List A → List A → Bool) (x : Parsed (List A)) (i : ℕ) → passing (countedP least most p t bt) ≡ got tt i
+      → walk q x (got (standing p m t g) i) ≡ walk q x (countedP least most p t bt)
+  standing-beside q x i v =
       let k : y .end ≡ i = cc (y .whole) in
-      rw (x .whole, y .whole, x .stand, y .stand, j, k)
+      rw (y .whole, y .stand, k)

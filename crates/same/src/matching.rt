@@ -9,6 +9,7 @@ use names::attribute_at;
 use names::rdn_at;
 use names::rdn_begins;
 ghost use mathlib.Core.Path.{_≡_};
+ghost use Rattle.fields.specs.Fields.{got, many};
 ghost use Rattle.names.specs.Names.{attrP, rdnP};
 ghost use Rattle.same.specs.Matching.{matched};
 ghost use Rattle.same.specs.Rows.{standing, hasRead};
@@ -37,11 +38,11 @@ pub fn has_name(s: &[u8], rdn: Rdn, t: &[u8], bt: usize, normalise: bool) -> boo
     false
 }
 
-// Whether each attribute of the RDN a of s has a match in the RDN b of t.
-fn has_names(s: &[u8], a: Rdn, t: &[u8], b: Rdn, normalise: bool) -> bool
-    ensures { λ r. ⌜ r ≡ matched normalise
-        (standing attrP (a .count) (now (s .entry)) (a .first))
-        (standing attrP (b .count) (now (t .entry)) (b .first)) ⌝ }
+// Where the RDN a of s ends, beside the end of the RDN b of t, if each attribute of a has a match in b.
+fn matches_walk(s: &[u8], a: Rdn, t: &[u8], b: Rdn, right: usize, normalise: bool) -> Walk
+    ensures { λ r. ⌜ r ≡ walk (matched normalise)
+        (many attrP (a .count) (now (s .entry)) (a .first))
+        (got (standing attrP (b .count) (now (t .entry)) (b .first)) right) ⌝ }
 {
     let mut at = a.first;
     let mut rest = a.count;
@@ -49,38 +50,31 @@ fn has_names(s: &[u8], a: Rdn, t: &[u8], b: Rdn, normalise: bool) -> bool
         match attribute_at(s, at) {
             AttributeAt::Got(x) => {
                 if !has_name(t, b, s, at, normalise) {
-                    return false;
+                    return Walk::Differ;
                 }
                 at = x.value.end;
                 rest -= 1;
             }
             AttributeAt::Stop(_) => {
-                return true;
+                return Walk::Differ;
             }
         }
     }
-    true
+    Walk::On { left: at, right }
 }
 
-// Where two RDNs end, if each attribute of the first has a match in the second.
+// Where two RDNs end, if each attribute of the first has a match in the second. Which is first can decide.
 pub fn matched_walk(s: &[u8], at: usize, t: &[u8], bt: usize, normalise: bool) -> Walk
     ensures { λ r. ⌜ r ≡ walk (matched normalise) (rdnP (now (s .entry)) at) (rdnP (now (t .entry)) bt) ⌝ }
 {
-    let Past::Got(left) = rdn_at(s, at) else {
-        return Walk::Differ;
-    };
-    let Past::Got(right) = rdn_at(t, bt) else {
-        return Walk::Differ;
-    };
     let RdnAt::Got(a) = rdn_begins(s, at) else {
         return Walk::Differ;
     };
     let RdnAt::Got(b) = rdn_begins(t, bt) else {
         return Walk::Differ;
     };
-    if has_names(s, a, t, b, normalise) {
-        Walk::On { left, right }
-    } else {
-        Walk::Differ
+    match rdn_at(t, bt) {
+        Past::Got(right) => matches_walk(s, a, t, b, right, normalise),
+        Past::Stop(_) => Walk::Differ,
     }
 }

@@ -5,37 +5,11 @@ use Rattle.fields.proofs.Ends.{passing-stops}
 use Rattle.names.specs.Names.{rdnP}
 use Rattle.names.specs.Answers.{rdnBegun}
 use Rattle.same.specs.Matching.{matched}
-use Rattle.same.proofs.Walks.{stop-right, no-count-left, no-count-right}
-use Rattle.same.proofs.Rows.{rdn-row, standing-judged}
+use Rattle.same.proofs.Walks.{stop-right, counted-left, no-count-left, no-count-right}
+use Rattle.same.proofs.Rows.{rdn-row, standing-beside}
 use borrow.Author.Needs.{needs}
 use Rattle.same.proofs.matching.matched_walk.Statement.{statement}
 use Rattle.same.proofs.matching.matched_walk.Tie as tie
-
-rdn-at-requires : tie.Need-rdn-at-requires
-rdn-at-requires c κs = search needs
-
-enum-known-left : tie.Need-enum-known-left
-enum-known-left c = search needs
-
-enum-told : tie.Need-enum-told
-enum-told c = search needs
-
-returns : tie.Need-returns
-returns c = rw (passing-stops (rdnP _ _) _ (sym (c .before .before .rdn-at .ensures) ∙ ap passed (c .enum-told .given .1)))
-
-rdn-at-requires-2 : tie.Need-rdn-at-requires-2
-rdn-at-requires-2 c κs = search needs
-
-enum-known-right : tie.Need-enum-known-right
-enum-known-right c = search needs
-
-enum-told-2 : tie.Need-enum-told-2
-enum-told-2 c = search needs
-
-returns-2 : tie.Need-returns-2
-returns-2 c =
-    rw (passing-stops (rdnP _ _) _ (sym (c .before .before .rdn-at2 .ensures) ∙ ap passed (c .enum-told2 .given .1)))
-    (sym (stop-right (matched _) (rdnP _ _) _))
 
 rdn-begins-requires : tie.Need-rdn-begins-requires
 rdn-begins-requires c κs = search needs
@@ -43,12 +17,12 @@ rdn-begins-requires c κs = search needs
 enum-known-a : tie.Need-enum-known-a
 enum-known-a c = search needs
 
-enum-told-3 : tie.Need-enum-told-3
-enum-told-3 c = search needs
+enum-told : tie.Need-enum-told
+enum-told c = search needs
 
-returns-3 : tie.Need-returns-3
+returns : tie.Need-returns
 unfolding rdnP
-returns-3 c = sym (no-count-left _ _ _ _ _ _ _ _ _ (sym (c .before .before .rdn-begins .ensures) ∙ ap rdnBegun (c .enum-told3 .given .1)))
+returns c = sym (no-count-left _ _ _ _ _ _ _ _ _ (sym (c .before .before .rdn-begins .ensures) ∙ ap rdnBegun (c .enum-told .given .1)))
 
 rdn-begins-requires-2 : tie.Need-rdn-begins-requires-2
 rdn-begins-requires-2 c κs = search needs
@@ -56,64 +30,57 @@ rdn-begins-requires-2 c κs = search needs
 enum-known-b : tie.Need-enum-known-b
 enum-known-b c = search needs
 
-enum-told-4 : tie.Need-enum-told-4
-enum-told-4 c = search needs
+enum-told-2 : tie.Need-enum-told-2
+enum-told-2 c = search needs
+
+returns-2 : tie.Need-returns-2
+unfolding rdnP
+returns-2 c = sym (no-count-right _ _ _ _ _ _ _ _ _ (sym (c .before .before .rdn-begins2 .ensures) ∙ ap rdnBegun (c .enum-told2 .given .1)))
+
+rdn-at-requires : tie.Need-rdn-at-requires
+rdn-at-requires c κs = search needs
+
+enum-known-right : tie.Need-enum-known-right
+enum-known-right c = search needs
+
+matches-walk-requires : tie.Need-matches-walk-requires
+matches-walk-requires c κs = search needs
+
+enum-told-3 : tie.Need-enum-told-3
+enum-told-3 c = search needs
+
+returns-3 : tie.Need-returns-3
+unfolding rdnP
+returns-3 c =
+    let r = c .before .before in
+    let b = r .before .before .before .before in
+    let a = b .before .before .before .before in
+    let right-ends = sym (r .before .before .rdn-at .ensures) ∙ ap passed (r .right .given .1) in
+    let right = rdn-row _ _ _ _ _ (b .before .before .rdn-begins2 .ensures) (b .b .given .1) right-ends in
+    c .matches-walk .ensures
+    ∙ standing-beside right (matched _) _ _ right-ends
+    ∙ sym (counted-left (matched _) _ _ _ _ _ _ _ _ (sym (a .before .before .rdn-begins .ensures) ∙ ap rdnBegun (a .a .given .1)))
 
 returns-4 : tie.Need-returns-4
-unfolding rdnP
-returns-4 c = sym (no-count-right _ _ _ _ _ _ _ _ _ (sym (c .before .before .rdn-begins2 .ensures) ∙ ap rdnBegun (c .enum-told4 .given .1)))
-
-has-names-requires : tie.Need-has-names-requires
-has-names-requires c κs = search needs
-
-returns-5 : tie.Need-returns-5
-unfolding rdnP
-returns-5 c =
-    let b = c .before .before .before in
-    let a = b .before .before .before .before in
-    let r = a .before .before .before .before in
-    let l = r .before .before .before .before in
-    let left-ends = sym (l .before .before .rdn-at .ensures) ∙ ap passed (l .left .given .1) in
-    let right-ends = sym (r .before .before .rdn-at2 .ensures) ∙ ap passed (r .right .given .1) in
-    let left = rdn-row _ _ _ _ _ (a .before .before .rdn-begins .ensures) (a .a .given .1) left-ends in
-    let right = rdn-row _ _ _ _ _ (b .before .before .rdn-begins2 .ensures) (b .b .given .1) right-ends in
-    sym (standing-judged left right _ _ _ left-ends right-ends
-    ∙ rw (← c .before .has-names .ensures, c .if1 .taken))
-
-returns-6 : tie.Need-returns-6
-unfolding rdnP
-returns-6 c =
-    let b = c .before .before .before in
-    let a = b .before .before .before .before in
-    let r = a .before .before .before .before in
-    let l = r .before .before .before .before in
-    let left-ends = sym (l .before .before .rdn-at .ensures) ∙ ap passed (l .left .given .1) in
-    let right-ends = sym (r .before .before .rdn-at2 .ensures) ∙ ap passed (r .right .given .1) in
-    let left = rdn-row _ _ _ _ _ (a .before .before .rdn-begins .ensures) (a .a .given .1) left-ends in
-    let right = rdn-row _ _ _ _ _ (b .before .before .rdn-begins2 .ensures) (b .b .given .1) right-ends in
-    sym (standing-judged left right _ _ _ left-ends right-ends
-    ∙ rw (← c .before .has-names .ensures, c .if1 .left))
+returns-4 c =
+    rw (passing-stops (rdnP _ _) _ (sym (c .before .before .rdn-at .ensures) ∙ ap passed (c .enum-told3 .given .1)))
+    (sym (stop-right (matched _) (rdnP _ _) _))
 
 pub matched-walk-spec : {M : Type 1} → statement M
 matched-walk-spec =
     tie.close
     (tie.spec
-    rdn-at-requires
-    enum-known-left
-    enum-told
-    returns
-    rdn-at-requires-2
-    enum-known-right
-    enum-told-2
-    returns-2
     rdn-begins-requires
     enum-known-a
-    enum-told-3
-    returns-3
+    enum-told
+    returns
     rdn-begins-requires-2
     enum-known-b
-    enum-told-4
-    returns-4
-    has-names-requires
-    returns-5
-    returns-6)
+    enum-told-2
+    returns-2
+    rdn-at-requires
+    enum-known-right
+    matches-walk-requires
+    enum-told-3
+    returns-3
+    returns-4)

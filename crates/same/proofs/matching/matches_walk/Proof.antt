@@ -1,23 +1,25 @@
--- `has_names` looks for each attribute of one RDN in the other. The invariant: what is left is had whole exactly where all is.
+-- `matches_walk` looks for each attribute of one RDN in the other. The invariant: the walk of what is left is the walk of all.
 use mathlib.Core.Path.{_≡_, refl, sym, _∙_}
 use borrow.Author.Needs.{needs}
 use borrow.Author.Tests.{not-true, not-false}
+use mathlib.Core.Bool.{true, false}
+use Rattle.fields.specs.Fields.{got, many}
 use Rattle.names.specs.Names.{attrP}
+use Rattle.names.proofs.Attributes.{attr-read, attr-stops}
 use Rattle.same.specs.Matching.{matched}
 use Rattle.same.specs.Rows.{standing}
-use Rattle.names.proofs.Attributes.{attr-read, attr-stops}
-use Rattle.same.proofs.Members.{has-read}
-use Rattle.same.proofs.Standing.{standing-none, standing-some}
-use Rattle.same.proofs.matching.has_names.Statement.{statement}
-use Rattle.same.proofs.matching.has_names.Tie as tie
+use Rattle.same.specs.Walks.{walk}
+use Rattle.same.proofs.Members.{has-read, sought-first, sought-stops, sought-none}
+use Rattle.same.proofs.matching.matches_walk.Statement.{statement}
+use Rattle.same.proofs.matching.matches_walk.Tie as tie
 
 abbrev Inv-loop : tie.InvT-loop
-Inv-loop s t b normalise at₀ rest₀ at rest =
-    matched normalise (standing attrP rest₀ s at₀) (standing attrP (b .count) t (b .first))
-    ≡ matched normalise (standing attrP rest s at) (standing attrP (b .count) t (b .first))
+Inv-loop s t b right normalise at₀ rest₀ at rest =
+    walk (matched normalise) (many attrP rest₀ s at₀) (got (standing attrP (b .count) t (b .first)) right)
+    ≡ walk (matched normalise) (many attrP rest s at) (got (standing attrP (b .count) t (b .first)) right)
 
 abbrev μ-loop : tie.MeasureT-loop
-μ-loop s t b normalise at₀ rest₀ at rest = rest
+μ-loop s t b right normalise at₀ rest₀ at rest = rest
 
 loop-holds : tie.Need-loop-holds Inv-loop μ-loop
 loop-holds c = refl
@@ -36,7 +38,7 @@ returns c =
     let k = c .before .before .before .before .before in
     let x = attr-read _ _ _ (k .attribute-at .ensures) _ (c .before .before .before .x .given .1) in
     let no = sym (has-read _ _ _ _ _ x) ∙ sym (c .before .has-name .ensures) ∙ not-true (c .before .has-name .result) (c .if1 .taken) in
-    sym (k .before .before .loop .inv ∙ rw (standing-some attrP _ _ _ (k .before .loop-test .taken), x, no))
+    sym (k .before .before .loop .inv ∙ sought-first _ _ _ _ _ _ (k .before .loop-test .taken) _ _ x false no)
 
 sub-rest : tie.Need-sub-rest Inv-loop μ-loop
 sub-rest c = search needs
@@ -49,7 +51,7 @@ loop-again c =
     let k = c .before .before .before .before .before in
     let x = attr-read _ _ _ (k .attribute-at .ensures) _ (c .before .before .before .x .given .1) in
     let yes = sym (has-read _ _ _ _ _ x) ∙ sym (c .before .has-name .ensures) ∙ not-false (c .before .has-name .result) (c .if1 .left) in
-    k .before .before .loop .inv ∙ rw (standing-some attrP _ _ _ (k .before .loop-test .taken), x, yes)
+    k .before .before .loop .inv ∙ sought-first _ _ _ _ _ _ (k .before .loop-test .taken) _ _ x true yes
 
 enum-told : tie.Need-enum-told Inv-loop μ-loop
 enum-told c = search needs
@@ -58,13 +60,13 @@ returns-2 : tie.Need-returns-2 Inv-loop μ-loop
 returns-2 c =
     let k = c .before .before in
     let stops = attr-stops _ _ _ (k .attribute-at .ensures) _ (c .enum-told .given .1) in
-    sym (k .before .before .loop .inv ∙ rw (standing-some attrP _ _ _ (k .before .loop-test .taken), stops))
+    sym (k .before .before .loop .inv ∙ sought-stops _ _ _ _ _ _ (k .before .loop-test .taken) _ stops)
 
 returns-3 : tie.Need-returns-3 Inv-loop μ-loop
-returns-3 c = sym (c .before .loop .inv ∙ rw (standing-none attrP _ _ _ (c .loop-test .left)))
+returns-3 c = sym (c .before .loop .inv ∙ sought-none _ _ _ _ _ _ (c .loop-test .left))
 
-pub has-names-spec : {M : Type 1} → statement M
-has-names-spec =
+pub matches-walk-spec : {M : Type 1} → statement M
+matches-walk-spec =
     tie.close
     (tie.spec
     Inv-loop
