@@ -1,5 +1,5 @@
 -- Rows with their counts before them: what a row that was read holds (`row-read`, of an RDN `rdn-row`), and another row walked beside what
--- stands in it (`standing-beside`). For `matched_walk` and subtree; a row up to the first thing that can't be read: Standing.antt.
+-- stands in it (`standing-walked`). For `matched_walk` and subtree; a row up to the first thing that can't be read: Standing.antt.
 use Prim.Native.Nat.{ℕ}
 use mathlib.Core.Path.{_≡_, refl, sym, ap, _∙_}
 use mathlib.Core.Bool.{Bool}
@@ -16,6 +16,7 @@ use Rattle.names.specs.declared.read.RdnAt.{RdnAt}
 use Rattle.names.specs.declared.read.RdnAt.the-variants as rdn
 use Rattle.same.specs.Rows.{Fine, standing}
 use Rattle.same.specs.Walks.{walk}
+use Rattle.same.specs.declared.walk.Walk.{Walk}
 use Rattle.same.proofs.Standing.{standing-whole}
 
 -- ---- what the place past a thing tells of the thing
@@ -59,11 +60,18 @@ pub rdn-row : (s : List ℕ) (at : ℕ) (r : RdnAt) (a : Rdn) (e : ℕ) → rdnB
 unfolding rdnP
 rdn-row s at r a e h k u = row-read 1 rdnMost attrP s at _ _ (sym h ∙ ap rdnBegun k) (passing-fine (rdnP s at) e u)
 
--- ---- a row beside another
+-- ---- two rows
 
-module _ {A : Type 0} {least most : ℕ} {p : List ℕ → ℕ → Parsed A} {t : List ℕ} {bt m g : ℕ} (y : Row least most p t bt m g) where
-  pub standing-beside : (q : List A → List A → Bool) (x : Parsed (List A)) (i : ℕ) → passing (countedP least most p t bt) ≡ got tt i
-      → walk q x (got (standing p m t g) i) ≡ walk q x (countedP least most p t bt)
-  standing-beside q x i v =
-      let k : y .end ≡ i = cc (y .whole) in
-      rw (y .whole, y .stand, k)
+from-count : {A : Type 0} (least most : ℕ) (p : List ℕ → ℕ → Parsed A) (s : List ℕ) (at n f : ℕ) → countP least most s at ≡ got n f
+    → countedP least most p s at ≡ many p n s f
+unfolding countedP
+from-count least most p s at n f h = rw h
+
+-- the first walked from the place past its count on, beside what stands in the second
+pub standing-walked : {A : Type 0} {least most : ℕ} {p : List ℕ → ℕ → Parsed A} {t : List ℕ} {bt m g : ℕ} → Row least most p t bt m g
+    → (q : List A → List A → Bool) (r : Walk) (s : List ℕ) (at n f i : ℕ) → countP least most s at ≡ got n f
+    → passing (countedP least most p t bt) ≡ got tt i → r ≡ walk q (many p n s f) (got (standing p m t g) i)
+    → r ≡ walk q (countedP least most p s at) (countedP least most p t bt)
+standing-walked {least} {most} {p} y q r s at n f i c v w =
+    let k : y .end ≡ i = cc (y .whole) in
+    w ∙ rw (y .whole, y .stand, k, from-count least most p s at n f c)

@@ -1,7 +1,6 @@
 -- Two things walked side by side: whether the walk came through (`walk-both`), a loop that counts two rows down (`walk-none`, `walk-on`,
--- `walk-differs`), rows with their counts before them (`counted-passes`, `counted-fails`, `counted-same`, `counted-left`, and where a count
--- can't be read), each for any element, relation, test of the lengths and reader. For the walks of src/ and for subtree; a walk:
--- specs/Walks.antt.
+-- `walk-differs`), rows with their counts before them (`counted-passes`, `counted-fails`, `counted-same`, and where a count can't be read),
+-- each for any element, relation, test of the lengths and reader. For src/walk.rt and subtree; a walk: specs/Walks.antt.
 use Prim.Native.Nat.{ℕ, zero, suc, _-_, _<_, _≤_}
 use mathlib.Core.Path.{_≡_, refl, sym, _∙_}
 use mathlib.Core.Bool.{Bool, true, false, cond, _&&_}
@@ -126,12 +125,6 @@ pub counted-same : {A : Type 0} (q : List A → List A → Bool) (p : List ℕ �
 unfolding countedP
 counted-same q p s t least most at bt n m e f h k i =
     counted-passes eqb q p s t least most at bt n m e f h k (eq-eqb n m i) ∙ rw (h, k, ← i)
-
--- a row from the place past its count on, beside anything
-pub counted-left : {A : Type 0} (q : List A → List A → Bool) (p : List ℕ → ℕ → Parsed A) (s : List ℕ) (least most at n e : ℕ) (y : Parsed (List A))
-    → countP least most s at ≡ got n e → walk q (countedP least most p s at) y ≡ walk q (many p n s e) y
-unfolding countedP
-counted-left q p s least most at n e y h = rw h
 
 -- ---- a count that can't be read, whatever relates the rows
 

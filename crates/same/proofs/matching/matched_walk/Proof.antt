@@ -5,8 +5,8 @@ use Rattle.fields.proofs.Ends.{passing-stops}
 use Rattle.names.specs.Names.{rdnP}
 use Rattle.names.specs.Answers.{rdnBegun}
 use Rattle.same.specs.Matching.{matched}
-use Rattle.same.proofs.Walks.{stop-right, counted-left, no-count-left, no-count-right}
-use Rattle.same.proofs.Rows.{rdn-row, standing-beside}
+use Rattle.same.proofs.Walks.{stop-right, no-count-left, no-count-right}
+use Rattle.same.proofs.Rows.{rdn-row, standing-walked}
 use borrow.Author.Needs.{needs}
 use Rattle.same.proofs.matching.matched_walk.Statement.{statement}
 use Rattle.same.proofs.matching.matched_walk.Tie as tie
@@ -57,9 +57,8 @@ returns-3 c =
     let a = b .before .before .before .before in
     let right-ends = sym (r .before .before .rdn-at .ensures) ∙ ap passed (r .right .given .1) in
     let right = rdn-row _ _ _ _ _ (b .before .before .rdn-begins2 .ensures) (b .b .given .1) right-ends in
-    c .matches-walk .ensures
-    ∙ standing-beside right (matched _) _ _ right-ends
-    ∙ sym (counted-left (matched _) _ _ _ _ _ _ _ _ (sym (a .before .before .rdn-begins .ensures) ∙ ap rdnBegun (a .a .given .1)))
+    standing-walked right (matched _) _ _ _ _ _ _ (sym (a .before .before .rdn-begins .ensures) ∙ ap rdnBegun (a .a .given .1)) right-ends
+    (c .matches-walk .ensures)
 
 returns-4 : tie.Need-returns-4
 returns-4 c =
