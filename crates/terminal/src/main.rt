@@ -2,8 +2,8 @@
 //
 // The 560 files and their lines were made from the card-file paper by a model that shares nothing with this code: its own whole files,
 // bundles of certificates as they occur, both sides of every limit, budgets around the exact number of simple paths, and damaged copies,
-// chosen so that each of a hundred likely misreadings of the paper gets a line wrong. Those from 0400 up are about the star: up to 0439 the
-// leaf would name the host if a star fitted the bare domain.
+// chosen so that each of a hundred likely misreadings of the paper gets a line wrong. Those from 0400 to 0479 are about the star: up to 0439
+// the leaf would name the host if a star fitted the bare domain. Those from 0480 up are about attributes in another order.
 use window::serve;
 
 fn main() {
