@@ -233,9 +233,13 @@ static void relations(void)
     is("a and A, flag 1", savuneco_same_attr(TEXT(ATTR_A), TEXT(ATTR_UPPER_A), 1), 1);
     is("a and A, flag 128", savuneco_same_attr(TEXT(ATTR_A), TEXT(ATTR_UPPER_A), 128), 1);
     is("RDN (a, b) and itself", savuneco_same_rdn(TEXT("\2" ATTR_A ATTR_B), TEXT("\2" ATTR_A ATTR_B), 0), 1);
-    is("RDN (a, b) and (b, a)", savuneco_same_rdn(TEXT("\2" ATTR_A ATTR_B), TEXT("\2" ATTR_B ATTR_A), 0), 0);
+    is("RDN (a, b) and (b, a)", savuneco_same_rdn(TEXT("\2" ATTR_A ATTR_B), TEXT("\2" ATTR_B ATTR_A), 0), 1);
+    is("RDN (a, a) and (a, b)", savuneco_same_rdn(TEXT("\2" ATTR_A ATTR_A), TEXT("\2" ATTR_A ATTR_B), 0), 1);
+    is("RDN (a, b) and (a, a)", savuneco_same_rdn(TEXT("\2" ATTR_A ATTR_B), TEXT("\2" ATTR_A ATTR_A), 0), 0);
     is("two names of no RDNs", savuneco_same_dn(TEXT("\0"), TEXT("\0"), 0), 1);
     is("names a and A, flag 2", savuneco_same_dn(TEXT("\1\1" ATTR_A), TEXT("\1\1" ATTR_UPPER_A), 2), 1);
+    is("names (a, a) and (a, b)", savuneco_same_dn(TEXT("\1\2" ATTR_A ATTR_A), TEXT("\1\2" ATTR_A ATTR_B), 0), 1);
+    is("names (a, b) and (a, a)", savuneco_same_dn(TEXT("\1\2" ATTR_A ATTR_B), TEXT("\1\2" ATTR_A ATTR_A), 0), 0);
     is("names a and A, flag 0", savuneco_same_dn(TEXT("\1\1" ATTR_A), TEXT("\1\1" ATTR_UPPER_A), 0), 0);
     is("RDN (a, b) has b", savuneco_rdn_has_name(TEXT("\2" ATTR_A ATTR_B), TEXT(ATTR_B), 0), 1);
     is("RDN (a) has b", savuneco_rdn_has_name(TEXT("\1" ATTR_A), TEXT(ATTR_B), 0), 0);
