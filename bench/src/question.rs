@@ -105,7 +105,8 @@ fn likely_issued(issuer: &Record, subject: &Record) -> bool {
     !key_ids_differ && !serials_differ && same_name(subject.issuer, issuer.subject)
 }
 
-/// Whether two encoded names are the same. Equal bytes are, and are looked at first.
+/// Whether an encoded name is the same as another: each attribute of the first has a match in the second. Equal bytes are, and are looked at
+/// first.
 fn same_name(a: &[u8], b: &[u8]) -> bool {
     a == b || (a[0] == b[0] && same_rdns(&a[1..], &b[1..]))
 }

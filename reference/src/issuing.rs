@@ -35,6 +35,7 @@ fn issuers_of(
     (0..issuers.len()).filter(issued).collect()
 }
 
+/// The subject's issuer name comes first.
 pub fn likely_issued(issuer: &Record, subject: &Record) -> bool {
     same_dn(&subject.issuer, &issuer.subject) && check_auth_key_id(issuer, subject)
 }

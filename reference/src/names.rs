@@ -13,7 +13,7 @@ pub fn same_rdn(a: &[Attribute], b: &[Attribute]) -> bool {
     a.len() == b.len() && a.iter().all(|x| b.iter().any(|y| same_attr(x, y)))
 }
 
-/// As many RDNs, the same place by place.
+/// As many RDNs, each of the first the same as the one at its place in the second.
 pub fn same_dn(a: &[Vec<Attribute>], b: &[Vec<Attribute>]) -> bool {
     a.len() == b.len() && a.iter().zip(b).all(|(x, y)| same_rdn(x, y))
 }
