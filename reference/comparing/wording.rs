@@ -69,8 +69,8 @@ pub fn name_of(entity: usize, dress: Dress) -> Name {
     }
 }
 
-/// The same name to `same_dn`, written in another way. One in fifty has an attribute repeated in another's place, which is still the same
-/// where it comes first and no longer where it comes second; one in a hundred is a near miss.
+/// The same name to `same_dn`, written in another way. In one of fifty an attribute may stand twice, in another's place, which is still the
+/// same where it comes first and no longer where it comes second; one in a hundred is a near miss.
 pub fn varied(random: &mut Random, name: &Name) -> Name {
     let mut name = name.clone();
     let wholly = random.chance(20);
@@ -98,7 +98,7 @@ pub fn varied(random: &mut Random, name: &Name) -> Name {
     name
 }
 
-/// Puts an attribute in the place of another of its RDN.
+/// Puts an attribute of each RDN of several in any of their places.
 fn repeat(random: &mut Random, name: &mut Name) {
     let several = name.iter_mut().filter(|rdn| rdn.len() > 1);
     for rdn in several {
