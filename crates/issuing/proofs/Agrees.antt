@@ -1,7 +1,7 @@
 -- Who issued whom by records and by what the file says are the same: for two records that stand in the file (`likely-read`), and for the
--- rows of a card that was read, at every two places (`bundle-row-agrees`, `root-row-agrees`); past the counts both are no. On the way: the
--- certificate at a place is what its record says (`root-is`, `bundled-is`). For policy and question. By records: specs/Records.antt; by
--- what the file says: specs/Issued.antt.
+-- rows of a card that was read, at every two places (`bundle-row-agrees`, `root-row-agrees`); past the counts both are no. So is who is
+-- self-issued (`self-issued-read`). On the way: the certificate at a place is what its record says (`root-is`, `bundled-is`). For policy and
+-- question. By records: specs/Records.antt; by what the file says: specs/Issued.antt.
 use Prim.Native.Nat.{ℕ, zero, suc, _<_, _≤_}
 use mathlib.Core.Path.{_≡_, refl, sym, ap, ap₂, _∙_}
 use mathlib.Core.Bool.{Bool, true, false, cond, _&&_}
@@ -15,6 +15,8 @@ use Rattle.record.specs.Fresh.{fresh}
 use Rattle.record.specs.declared.Record.{Record}
 use Rattle.record.specs.Parts.{issuerSpan, subjectSpan, certificateOf}
 use Rattle.record.proofs.Meaning.{issuer-within, subject-within, says-issuer, says-subject}
+use Rattle.same.specs.Answers.{sameNames}
+use Rattle.same.specs.Same.{sameDn}
 use Rattle.same.proofs.Spans.{spans-read}
 use Rattle.certificates.specs.Certificates.{recordOf, sizeOf}
 use Rattle.certificates.proofs.Standing.{Stands}
@@ -27,21 +29,23 @@ use Rattle.card.proofs.Standing.{root-at, bundled-at, roots-counted, roots-few,
 use Rattle.rows.specs.Rows.{has, rowOf, listing}
 use Rattle.rows.proofs.Places.{has-none, has-row}
 use Rattle.rows.proofs.Listing.{listing-at}
-use Rattle.issuing.specs.Issued.{likelyIssued, issued}
-use Rattle.issuing.specs.Records.{likelyIssuedAt, bundleIssuedAt, rootIssuedAt, bundleRows, rootRows}
+use Rattle.issuing.specs.Issued.{likelyIssued, issued, selfIssued}
+use Rattle.issuing.specs.Records.{likelyIssuedAt, selfIssuedAt, bundleIssuedAt, rootIssuedAt, bundleRows, rootRows}
 
 -- ---- two records
+
+-- the subject's issuer name beside the issuer's subject name
+names-read : (s : List ℕ) (issuer subject : Record) → Stands s issuer → Stands s subject
+    → sameNames true (issuerSpan subject) (subjectSpan issuer) s ≡ sameDn true (certificateOf subject s .issuer) (certificateOf issuer s .subject)
+names-read s issuer subject i j =
+    spans-read true s (issuerSpan subject) (subjectSpan issuer) _ _ (j .read .issuer) (i .read .subject)
+    (issuer-within s subject (j .past) (j .read)) (subject-within s issuer (i .past) (i .read))
+    ∙ rw (says-issuer s subject (j .past) (j .read), says-subject s issuer (i .past) (i .read))
 
 pub likely-read : (s : List ℕ) (issuer subject : Record) → Stands s issuer → Stands s subject
     → likelyIssuedAt s issuer subject ≡ likelyIssued (certificateOf issuer s) (certificateOf subject s)
 unfolding likelyIssuedAt likelyIssued
-likely-read s issuer subject i j =
-    rw (
-      spans-read true s (issuerSpan subject) (subjectSpan issuer) _ _ (j .read .issuer) (i .read .subject)
-          (issuer-within s subject (j .past) (j .read)) (subject-within s issuer (i .past) (i .read)),
-      says-issuer s subject (j .past) (j .read),
-      says-subject s issuer (i .past) (i .read),
-    )
+likely-read s issuer subject i j = rw (names-read s issuer subject i j)
 
 -- ---- two places
 
@@ -119,6 +123,11 @@ module _ (s : List ℕ) (c : Card) (e : ℕ) (t : CardRead s c e) where
   pub bundled-is : (i : ℕ) → i < c .bundle .count
       → certificateAt (contentOf c s) (bundled i) ≡ certificateOf (recordOf (c .bundle .count) (c .bundle .records) i) s
   bundled-is i h = getD-there (contentOf c s .bundle) i _ (certificateOf fresh s) (omega (arith, bundle-counted s c e t)) ∙ bundled-at c s i
+
+  pub self-issued-read : (i : ℕ) → i < c .bundle .count
+      → selfIssuedAt s (recordOf (c .bundle .count) (c .bundle .records) i) ≡ selfIssued (certificateAt (contentOf c s) (bundled i))
+  unfolding selfIssuedAt
+  self-issued-read i h = let r = bundled-stands s c e t i h in names-read s _ _ r r ∙ sym (ap selfIssued (bundled-is i h))
 
   bundle-pair : (i j : ℕ) → i < c .bundle .count → j < c .bundle .count
       → bundleIssuedAt s (c .bundle) (c .verdicts) i j ≡ issued (contentOf c s) (bundled i) j

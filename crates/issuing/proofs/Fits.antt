@@ -1,6 +1,6 @@
 -- What the code's tests of names and key identifiers come to, for an issuer and a subject whose claim is at hand: flags and parts as bytes
--- give `keys-fit`; with that asked first, the names give `likely-names` and `likely-none`. For the proofs of src/likely.rt; what is asked:
--- specs/Records.antt.
+-- give `keys-fit`; with that asked first, the names give `likely-names` and `likely-none`. A certificate's own two names give `self-names`.
+-- For the proofs of src/likely.rt and of `self_issued`; what is asked: specs/Records.antt.
 use Prim.Native.Nat.{ℕ}
 use mathlib.Core.Path.{_≡_, refl, sym, _∙_}
 use mathlib.Core.Bool.{Bool, true, false, _&&_}
@@ -17,7 +17,7 @@ use Rattle.record.specs.declared.strings.Strings.{Strings}
 use Rattle.record.specs.Parts.{headOf, stringsOf, keyIdsOf, issuerSpan, subjectSpan, certificateBy, certificateOf}
 use Rattle.record.specs.declared.Record.{Record}
 use Rattle.issuing.specs.Issued.{keysFit}
-use Rattle.issuing.specs.Records.{claimOf, likelyIssuedAt}
+use Rattle.issuing.specs.Records.{claimOf, likelyIssuedAt, selfIssuedAt}
 use Rattle.issuing.specs.declared.likely.Claim.{Claim}
 
 given-present : (b : Bool) (l : List ℕ) → given b l ≡ present b l
@@ -71,3 +71,9 @@ module _ (s : List ℕ) (issuer subject : Record) where
   pub likely-none : keysFit (certificateOf issuer s) (certificateOf subject s) ≡ false → false ≡ likelyIssuedAt s issuer subject
   unfolding likelyIssuedAt
   likely-none h = after-no (sameNames true (issuerSpan subject) (subjectSpan issuer) s) _ h
+
+-- the names that the code compares are the certificate's own
+pub self-names : (s : List ℕ) (cert : Record) {issuer subject : Span} {r : Bool} → issuer ≡ issuerSpan cert → subject ≡ subjectSpan cert
+    → r ≡ sameNames true issuer subject s → r ≡ selfIssuedAt s cert
+unfolding selfIssuedAt
+self-names s cert p q e = e ∙ rw (p, q)

@@ -1,5 +1,5 @@
 -- Who issued whom (docs/CARD-FILE.md, "Who issued whom"; upstream's `likely_issued` and `issued`): key identifiers that fit, likely issued,
--- issued. A reader must believe this file (docs/MAP.md).
+-- issued; and a certificate that is self-issued. A reader must believe this file (docs/MAP.md).
 -- Not here: when names are the same (same/specs/Same.antt); the authority key id check (keys/specs/AuthKeyId.antt); the verdict (`signed`
 -- of card/specs/Content.antt); the same of records (Records.antt), joined to this in proofs/Agrees.antt.
 use Prim.Native.Nat.{ℕ}
@@ -21,3 +21,7 @@ likelyIssued issuer subject = sameDn true (subject .issuer) (issuer .subject) &&
 -- issued: likely issued, and verdict 1
 unfoldable pub issued : Content → Issuer → ℕ → Bool
 issued c i j = likelyIssued (certificateAt c i) (certificateAt c (bundled j)) && signed c i j
+
+-- self-issued (RFC 5280, 6.1): its issuer name, which comes first, is the same as its subject name, normalised
+abbrev pub selfIssued : Certificate → Bool
+selfIssued c = sameDn true (c .issuer) (c .subject)

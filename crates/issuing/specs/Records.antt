@@ -29,6 +29,10 @@ unfoldable pub likelyIssuedAt : List ℕ → Record → Record → Bool
 likelyIssuedAt s issuer subject =
     sameNames true (issuerSpan subject) (subjectSpan issuer) s && keysFit (certificateOf issuer s) (certificateOf subject s)
 
+-- its issuer name comes first
+unfoldable pub selfIssuedAt : List ℕ → Record → Bool
+selfIssuedAt s cert = sameNames true (issuerSpan cert) (subjectSpan cert) s
+
 -- bundle place i issued bundle place j
 unfoldable pub bundleIssuedAt : List ℕ → Bundle → Verdicts → ℕ → ℕ → Bool
 bundleIssuedAt s b v i j =

@@ -7,11 +7,13 @@ use card::Bundle;
 use card::BundlePlace;
 use card::Card;
 use likely::claim_of;
+use record::Record;
 use row::bundle_row;
 use row::root_row;
 use rows::either;
+use same::same_names;
 ghost use mathlib.Core.Path.{_≡_};
-ghost use Rattle.issuing.specs.Records.{bundleRows, rootRows, issuersOf};
+ghost use Rattle.issuing.specs.Records.{bundleRows, rootRows, issuersOf, selfIssuedAt};
 
 // Who issued whom: a row for each subject of the bundle.
 pub struct Issuing {
@@ -55,4 +57,13 @@ pub fn issuers_of(rows: [u64; Bundle::MOST]) -> u64
         all = either(rows[j], all);
     }
     all
+}
+
+// Whether a certificate is self-issued: its issuer name, which comes first, is the same as its subject name, normalised.
+pub fn self_issued(file: &[u8], cert: Record) -> bool
+    ensures { λ r. ⌜ r ≡ selfIssuedAt (now (file .entry)) cert ⌝ }
+{
+    let issuer = cert.issuer_name();
+    let subject = cert.subject_name();
+    same_names(file, issuer, subject, true)
 }
