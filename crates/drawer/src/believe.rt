@@ -44,7 +44,7 @@ fn top_judged(path: &[u8], judged: Judged) -> u8 {
     let seats = seats_of(judged, Bundle::MOST as u8);
     let rows = seats.rows;
     lowest(shared(
-        over(standing_before(path, &rows), last),
+        over(&rows, standing_of(path, &rows)),
         issuers(&issued, last),
     ))
 }
@@ -57,12 +57,12 @@ fn issuers(issued: &[u64; Bundle::MOST], place: u8) -> u64 {
     issued[place as usize]
 }
 
-// How a path stands that is to go on by its last place.
-fn standing_before(path: &[u8], seats: &[u64; Seats::ROWS]) -> Standing {
-    let mut standing = begun(seats);
-    let mut next = 1;
+// How a path stands.
+fn standing_of(path: &[u8], seats: &[u64; Seats::ROWS]) -> Standing {
+    let mut standing = begun();
+    let mut next = 0;
     while next < path.len() {
-        standing = added(seats, standing, path[next - 1]);
+        standing = added(seats, standing, path[next]);
         next += 1;
     }
     standing

@@ -1,19 +1,19 @@
 -- The policy by where a certificate stands: what a chain is asked rule by rule is what its leaf, each certificate between and its root are
 -- asked (`policy-by-seat`), for Seats.antt and Qualified.antt. The policy: specs/Policy.antt; what is asked by where one stands:
--- specs/Sound.antt.
+-- specs/Sound.antt; the rule on path lengths alone: Lengths.antt.
 use Prim.Native.Nat.{ℕ, _+_}
-use mathlib.Core.Path.{_≡_, refl, sym, ap, _∙_}
+use mathlib.Core.Path.{_≡_, refl, sym}
 use mathlib.Core.Bool.{Bool, true, false, _&&_}
 use mathlib.Core.List.{List, [], _∷_, _++_}
 use native.Mathlib.Omega.{arith}
-use lib.ListN.{length}
 use Rattle.text.specs.Each.{all}
 use Rattle.text.proofs.Each.{both-true}
 use Rattle.record.specs.Certificate.{Certificate}
 use Rattle.rules.specs.Rules.{inDate, wellFormed, handled, authority, allows, forServers, forHost}
 use Rattle.rules.specs.declared.rules.Time.{Time}
-use Rattle.policy.specs.Policy.{Chain, pathLengths, policy}
+use Rattle.policy.specs.Policy.{Chain, counts, pathLengths, policy}
 use Rattle.policy.specs.Sound.{betweenSound, topSound}
+use Rattle.policy.proofs.Lengths.{nonSelfIssued, lengths-more, lengths-front, lengths-at}
 
 -- ---- tests that come out true
 
@@ -22,6 +22,11 @@ same-yes : (a b : Bool) → (a ≡ true → b ≡ true) → (b ≡ true → a �
 same-yes true b f g = sym (f refl)
 same-yes false true f g = g refl
 same-yes false false f g = refl
+
+-- what is asked after a test matters only where the test is a yes
+pub after-yes : (t a b : Bool) → (t ≡ true → a ≡ b) → t && a ≡ t && b
+after-yes true a b f = f refl
+after-yes false a b f = refl
 
 abbrev both : (t u : Bool) → t ≡ true → u ≡ true → t && u ≡ true
 both t u h k = both-true t u .1 (h, k)
@@ -49,38 +54,12 @@ module _ (test : Certificate → Bool) (t : Certificate) where
   all-last [] h = first (test t) true h
   all-last (c ∷ l) h = all-last l (second (test c) (all test (l ++ t ∷ [])) h)
 
-module _ (t : Certificate) where
-  lengths-more : (n : ℕ) (l : List Certificate) → pathLengths n l ≡ true → allows (n + length l) t ≡ true → pathLengths n (l ++ t ∷ []) ≡ true
-  unfolding pathLengths
-  lengths-more n [] h k =
-      let z : n + 0 ≡ n = omega arith in
-      both (allows n t) true (ap (λ (m : ℕ). allows m t) (sym z) ∙ k) refl
-  lengths-more n (c ∷ l) h k =
-      let p = both-true (allows n c) (pathLengths (n + 1) l) .0 h in
-      let z : n + 1 + length l ≡ n + length (c ∷ l) = omega arith in
-      both (allows n c) _ (p .0) (lengths-more (n + 1) l (p .1) (ap (λ (m : ℕ). allows m t) z ∙ k))
-
-  lengths-front : (n : ℕ) (l : List Certificate) → pathLengths n (l ++ t ∷ []) ≡ true → pathLengths n l ≡ true
-  unfolding pathLengths
-  lengths-front n [] h = refl
-  lengths-front n (c ∷ l) h =
-      let p = both-true (allows n c) (pathLengths (n + 1) (l ++ t ∷ [])) .0 h in
-      both (allows n c) _ (p .0) (lengths-front (n + 1) l (p .1))
-
-  lengths-last : (n : ℕ) (l : List Certificate) → pathLengths n (l ++ t ∷ []) ≡ true → allows (n + length l) t ≡ true
-  unfolding pathLengths
-  lengths-last n [] h = let z : n + 0 ≡ n = omega arith in ap (λ (m : ℕ). allows m t) z ∙ first (allows n t) true h
-  lengths-last n (c ∷ l) h =
-      let p = both-true (allows n c) (pathLengths (n + 1) (l ++ t ∷ [])) .0 h in
-      let z : n + 1 + length l ≡ n + length (c ∷ l) = omega arith in
-      ap (λ (m : ℕ). allows m t) (sym z) ∙ lengths-last (n + 1) l (p .1)
-
 -- ---- those between
 
--- each is sound, and allows as many as stand between it and the leaf
+-- each is sound, and allows as many as are below it and are not self-issued: below the first of these n are not
 unfoldable pub allBetween : Time → ℕ → List Certificate → Bool
 allBetween time n [] = true
-allBetween time n (c ∷ l) = betweenSound time c && allows n c && allBetween time (n + 1) l
+allBetween time n (c ∷ l) = betweenSound time c && allows n c && allBetween time (n + counts c) l
 
 record Between (time : Time) (n : ℕ) (l : List Certificate) : Type 0 where
   dates : all (inDate time) l ≡ true
@@ -94,12 +73,12 @@ module _ (time : Time) where
   unfolding allBetween betweenSound pathLengths
   between-told n [] h = record { dates = refl; forms = refl; handles = refl; authorities = refl; lengths = refl }
   between-told n (c ∷ l) h =
-      let p = both-true (betweenSound time c && allows n c) (allBetween time (n + 1) l) .0 h in
+      let p = both-true (betweenSound time c && allows n c) (allBetween time (n + counts c) l) .0 h in
       let q = both-true (betweenSound time c) (allows n c) .0 (p .0) in
       let u = both-true (inDate time c && wellFormed c && handled c) (authority c) .0 (q .0) in
       let v = both-true (inDate time c && wellFormed c) (handled c) .0 (u .0) in
       let w = both-true (inDate time c) (wellFormed c) .0 (v .0) in
-      let r = between-told (n + 1) l (p .1) in
+      let r = between-told (n + counts c) l (p .1) in
       record {
         dates = both (inDate time c) _ (w .0) (r .dates);
         forms = both (wellFormed c) _ (w .1) (r .forms);
@@ -116,11 +95,11 @@ module _ (time : Time) where
       let f = both-true (wellFormed c) (all wellFormed l) .0 (h .forms) in
       let k = both-true (handled c) (all handled l) .0 (h .handles) in
       let a = both-true (authority c) (all authority l) .0 (h .authorities) in
-      let p = both-true (allows n c) (pathLengths (n + 1) l) .0 (h .lengths) in
-      let rest : Between time (n + 1) l = record { dates = d .1; forms = f .1; handles = k .1; authorities = a .1; lengths = p .1 } in
+      let p = both-true (allows n c) (pathLengths (n + counts c) l) .0 (h .lengths) in
+      let rest : Between time (n + counts c) l = record { dates = d .1; forms = f .1; handles = k .1; authorities = a .1; lengths = p .1 } in
       let sound : betweenSound time c ≡ true =
       both _ (authority c) (both _ (handled c) (both (inDate time c) (wellFormed c) (d .0) (f .0)) (k .0)) (a .0) in
-      both _ (allBetween time (n + 1) l) (both (betweenSound time c) (allows n c) sound (p .0)) (between-tells (n + 1) l rest)
+      both _ (allBetween time (n + counts c) l) (both (betweenSound time c) (allows n c) sound (p .0)) (between-tells (n + counts c) l rest)
 
 -- ---- the chain
 
@@ -128,12 +107,12 @@ module _ (time : Time) where
 unfoldable pub leafSound : Time → List ℕ → Certificate → Bool
 leafSound time host c = inDate time c && wellFormed c && handled c && forServers c && forHost host c
 
--- leaf, those between, and the root with as many below it
+-- leaf, those between, and the root, which allows as many as are not self-issued between it and the leaf
 unfoldable pub bySeat : Time → List ℕ → Chain → Bool
 bySeat time host ch =
     leafSound time host (ch .leaf)
     && allBetween time 0 (ch .between)
-    && (topSound time (ch .top) && allows (length (ch .between)) (ch .top))
+    && (topSound time (ch .top) && allows (nonSelfIssued (ch .between)) (ch .top))
 
 module _ (time : Time) (host : List ℕ) (leaf : Certificate) (between : List Certificate) (top : Certificate) where
   abbrev chain : Chain
@@ -161,7 +140,7 @@ module _ (time : Time) (host : List ℕ) (leaf : Certificate) (between : List Ce
   seats-told : policy time host chain ≡ true → bySeat time host chain ≡ true
   unfolding policy bySeat leafSound topSound
   seats-told h =
-      let none : 0 + length between ≡ length between = omega arith in
+      let none : 0 + nonSelfIssued between ≡ nonSelfIssued between = omega arith in
       let host-asked = both-true (D && W && H && A && L && forServers leaf) (forHost host leaf) .0 h in
       let usages = both-true (D && W && H && A && L) (forServers leaf) .0 (host-asked .0) in
       let lengths = both-true (D && W && H && A) L .0 (usages .0) in
@@ -183,15 +162,15 @@ module _ (time : Time) (host : List ℕ) (leaf : Certificate) (between : List Ce
       both _ (forHost host leaf) (both _ (forServers leaf) (both _ (handled leaf) (both (inDate time leaf) (wellFormed leaf) (d .0) (w .0)) (k .0)) (usages .1)) (host-asked .1) in
       let top-sound : topSound time top ≡ true =
       both _ (authority top) (both (inDate time top) (handled top) (all-last (inDate time) top between (d .1)) (all-last handled top between (k .1))) (all-last authority top between (authorities .1)) in
-      both _ _ (both _ _ leaf-sound (between-tells time 0 between asked)) (both _ _ top-sound (rw (← none) (lengths-last top 0 between (lengths .1))))
+      both _ _ (both _ _ leaf-sound (between-tells time 0 between asked)) (both _ _ top-sound (rw (← none) (lengths-at top 0 between [] (lengths .1))))
 
   seats-tell : bySeat time host chain ≡ true → policy time host chain ≡ true
   unfolding policy bySeat leafSound topSound
   seats-tell h =
-      let none : 0 + length between ≡ length between = omega arith in
-      let x = both-true (leafSound time host leaf && allBetween time 0 between) (topSound time top && allows (length between) top) .0 h in
+      let none : 0 + nonSelfIssued between ≡ nonSelfIssued between = omega arith in
+      let x = both-true (leafSound time host leaf && allBetween time 0 between) (topSound time top && allows (nonSelfIssued between) top) .0 h in
       let y = both-true (leafSound time host leaf) (allBetween time 0 between) .0 (x .0) in
-      let z = both-true (topSound time top) (allows (length between) top) .0 (x .1) in
+      let z = both-true (topSound time top) (allows (nonSelfIssued between) top) .0 (x .1) in
       let u = both-true (inDate time top && handled top) (authority top) .0 (z .0) in
       let v = both-true (inDate time top) (handled top) .0 (u .0) in
       let host-asked = both-true (inDate time leaf && wellFormed leaf && handled leaf && forServers leaf) (forHost host leaf) .0 (y .0) in

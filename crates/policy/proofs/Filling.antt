@@ -1,27 +1,23 @@
 -- Filling the seats: each is put in the row of its limit (`entering-starts`, `entering-turn`, `entering-ends`), then each row is handed on
--- to the one before it (`handing-starts`, `handing-turn`, `handing-ends`); and the seats of both parts (`limited`, `seats-filled`), with
--- `second-lent` and `second-back` for lending the second. For src/seating.rt; what is promised: specs/Filling.antt; what the seats are good
--- for: Qualifying.antt.
-use Prim.Native.Nat.{ℕ, _+_, _-_, _≤_, _<_, min}
+-- to the one before it (`handing-starts`, `handing-turn`, `handing-ends`). For src/seating.rt; the rows of each kind among all: ByKind.antt;
+-- what is promised: specs/Filling.antt; what the seats are good for: Qualifying.antt.
+use Prim.Native.Nat.{ℕ, _-_, _≤_, _<_, min}
 use mathlib.Core.Bool.{Bool, true, false, cond, not, _&&_, _||_, and-true, and-false, and-not-self, or-false, false≢true}
-use mathlib.Core.List.{List, [], _∷_, _++_}
+use mathlib.Core.List.{List}
 use mathlib.Core.Path.{_≡_, refl, sym, ap, _∙_}
 use native.Mathlib.Nat.{min-le-right}
 use native.Mathlib.Omega.{arith}
-use borrow.Author.Tests.{ltb-true, ltb-false, eqb-true, eqb-false, leb-true, leb-false, lt-ltb, le-ltb, le-leb, lt-leb, eq-eqb, ne-eqb}
+use borrow.Author.Tests.{ltb-true, ltb-false, eqb-true, eqb-false, leb-true, leb-false, lt-ltb, le-leb, lt-leb, eq-eqb, ne-eqb}
 use lib.Dec.{eqb, leb, ltb}
-use lib.ListN.{length, getD, set, replicate, take, drop, length-set, List·getD-append}
-use lib.Seq.{getD-set-same, getD-set-other, getD-append-add, take-at, drop-at}
-use Rattle.places.specs.Limits.{rootsMost, bundleMost}
-use Rattle.rows.specs.Rows.{has, joined, left, common, either, lowest, below}
+use lib.ListN.{length, getD, set, replicate, length-set}
+use lib.Seq.{getD-set-same, getD-set-other}
+use Rattle.places.specs.Limits.{bundleMost}
+use Rattle.rows.specs.Rows.{has, joined, left, either, lowest, below}
 use Rattle.rows.proofs.Listing.{getD-zeros}
-use Rattle.rows.proofs.Places.{has-none, has-joined, has-left, has-common, has-either, has-dropped, lowest-least}
+use Rattle.rows.proofs.Places.{has-none, has-joined, has-left, has-either, has-dropped, lowest-least}
 use Rattle.rows.proofs.Taking.{lowest-there}
-use Rattle.rows.proofs.Upper.{has-below}
 use Rattle.policy.specs.Filling.{Limited, Entered, Filled}
 use Rattle.policy.specs.Judging.{stands}
-use Rattle.policy.specs.Standing.{Seated}
-use Rattle.policy.specs.declared.judged.Judged.{Judged}
 
 -- ---- each in the row of its limit
 
@@ -94,7 +90,7 @@ module _ (last sound : ℕ) (limits : List ℕ) where
 -- ---- each in the rows before it too
 
 -- up to the lesser of two is up to both
-min-up : (n a b : ℕ) → leb n (min a b) ≡ leb n b && leb n a
+pub min-up : (n a b : ℕ) → leb n (min a b) ≡ leb n b && leb n a
 min-up n a b = go (leb n b) refl (leb n a) refl
   where
     go : (t : Bool) → leb n b ≡ t → (u : Bool) → leb n a ≡ u → leb n (min a b) ≡ t && u
@@ -199,47 +195,3 @@ module _ (last : ℕ) (before : List ℕ) where
         turned true a b = refl
         turned false true b = refl
         turned false false b = refl
-
--- ---- both parts
-
--- those of a row below n have a limit where there are n
-pub limited : (sound n : ℕ) (limits : List ℕ) → length limits ≡ n → n ≤ 64 → Limited (common sound (below n)) limits
-limited sound n limits e h =
-    record {
-      few = omega arith;
-      inside = λ i k. has-common i sound (below n) ∙ rw (has-below i n h, le-ltb i n (omega arith), and-false);
-    }
-
--- up to the lesser of a number and the last row is up to that number, for a row that there is
-up-to : (after n : ℕ) → n < bundleMost → leb n (min after (bundleMost - 1)) ≡ leb n after
-up-to after n h = min-up n after (bundleMost - 1) ∙ rw (le-leb n (bundleMost - 1) (omega arith))
-
-module _ (j : Judged) (after : ℕ) (places roots : List ℕ) where
-  abbrev last : ℕ
-  last = min after (bundleMost - 1)
-
-  pub seats-filled : Filled last (common (j .between .sound) (below bundleMost)) (j .between .limits) places
-      → Filled last (common (j .above .sound) (below rootsMost)) (j .above .limits) roots → Seated j after (places ++ (roots ++ j .leaves ∷ []))
-  seats-filled p q =
-      record {
-        places = λ n i h. ap (has i) (List·getD-append places (roots ++ j .leaves ∷ []) 0 n (omega (arith, p .size))) ∙ p .may n i h ∙ rw (up-to after n h);
-        roots = λ n i h. ap (has i) (second n ∙ List·getD-append roots (j .leaves ∷ []) 0 n (omega (arith, q .size))) ∙ q .may n i h ∙ rw (up-to after n h);
-        leaves = second bundleMost ∙ third;
-      }
-    where
-      second : (n : ℕ) → getD (places ++ (roots ++ j .leaves ∷ [])) (bundleMost + n) 0 ≡ getD (roots ++ j .leaves ∷ []) n 0
-      second n = ap (λ (k : ℕ). getD (places ++ (roots ++ j .leaves ∷ [])) (k + n) 0) (sym (p .size)) ∙ getD-append-add places (roots ++ j .leaves ∷ []) n 0
-
-      third : getD (roots ++ j .leaves ∷ []) bundleMost 0 ≡ j .leaves
-      third = ap (λ (k : ℕ). getD (roots ++ j .leaves ∷ []) (k + 0) 0) (sym (q .size)) ∙ getD-append-add roots (j .leaves ∷ []) 0 0
-
--- what the second part is lent, and what it leaves of the whole
-module _ (places : List ℕ) (size : length places ≡ bundleMost) (leaves : ℕ) where
-  abbrev rest : List ℕ
-  rest = replicate bundleMost 0 ++ leaves ∷ []
-
-  pub second-lent : take bundleMost (drop bundleMost (places ++ rest)) ≡ replicate bundleMost 0
-  second-lent = ap (take bundleMost) (drop-at places rest bundleMost size)
-
-  pub second-back : (roots : List ℕ) → take bundleMost (places ++ rest) ++ (roots ++ drop bundleMost (drop bundleMost (places ++ rest))) ≡ places ++ (roots ++ leaves ∷ [])
-  second-back roots = rw (take-at places rest bundleMost size, drop-at places rest bundleMost size)

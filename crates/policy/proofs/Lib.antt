@@ -1,8 +1,10 @@
 pub mod Adding
 pub mod Asking
+pub mod ByKind
 pub mod Chains
 pub mod Filling
 pub mod Frauds
+pub mod Lengths
 pub mod Once
 pub mod Places
 pub mod Qualified

@@ -16,7 +16,7 @@ use Rattle.issuing.specs.Records.{bundleRows, rootRows, issuersOf}
 use Rattle.rules.specs.Rules.{inDate, wellFormed, handled, authority}
 use Rattle.rules.specs.Records.{forServersAt, forHostAt}
 use Rattle.rules.specs.declared.rules.Time.{Time}
-use Rattle.policy.specs.Sound.{betweenSound, topSound, leafSoundAt, soundPlaces, placeLimits, soundRoots, rootLimits, soundLeaves, judgedOf}
+use Rattle.policy.specs.Sound.{betweenSound, topSound, leafSoundAt, soundPlaces, placeLimits, soundRoots, rootLimits, soundLeaves, countedPlaces, judgedOf}
 use Rattle.policy.specs.declared.judged.Judged.{Judged}
 
 -- ---- by where it stands
@@ -74,18 +74,20 @@ module _ (s : List ℕ) (time : Time) (host : List ℕ) (r : Record) where
 
 -- ---- the facts
 
-pub judged-is : (s : List ℕ) (time : Time) (c : Card) {bundle roots limits tops : List ℕ} {asked sound above leaves : ℕ} {host : List ℕ}
+pub judged-is : (s : List ℕ) (time : Time) (c : Card) {bundle roots limits tops : List ℕ} {asked sound above leaves counted : ℕ} {host : List ℕ}
     → bundle ≡ bundleRows s (c .bundle) (c .verdicts) → roots ≡ rootRows s (c .roots) (c .bundle) (c .verdicts)
     → sound ≡ soundPlaces s time (c .bundle) → limits ≡ placeLimits s (c .bundle)
     → asked ≡ issuersOf roots → above ≡ soundRoots s time asked (c .roots) → tops ≡ rootLimits s asked (c .roots)
     → host ≡ bytesOf (c .task .host .name) s → leaves ≡ soundLeaves s time host (c .bundle)
+    → counted ≡ countedPlaces s sound (c .bundle)
     → _≡_ {A = Judged}
     (record {
       issuing = record { bundle = bundle; roots = roots };
       between = record { sound = sound; limits = limits };
       above = record { sound = above; limits = tops };
       leaves = leaves;
+      counted = counted;
     })
     (judgedOf s time c)
 unfolding judgedOf
-judged-is s time c b r p l a u t h q = rw (q, h, t, u, a, l, p, r, b)
+judged-is s time c b r p l a u t h q k = rw (k, q, h, t, u, a, l, p, r, b)

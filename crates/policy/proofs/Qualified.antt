@@ -1,7 +1,7 @@
 -- What is judged of a card is what the content says, at any time: who issued whom in the bundle (`issuer-judged`); a root by which a list
 -- of places qualifies, as its certificates were judged, is one by which it qualifies (`root-judged`), and is there (`qualifies-there`). For
 -- question/proofs/Meaning.antt. As judged: specs/Judging.antt; by the content: specs/Qualifies.antt.
-use Prim.Native.Nat.{ℕ, _<_, _≤_}
+use Prim.Native.Nat.{ℕ, _+_, _<_, _≤_}
 use mathlib.Core.Path.{_≡_, refl, sym, ap, _∙_}
 use mathlib.Core.Bool.{Bool, true, false, _&&_, false≢true}
 use mathlib.Core.List.{List, [], _∷_, map, List·Memᴰ·head as here, List·Memᴰ·tail as there}
@@ -10,6 +10,7 @@ use lib.Dec.{ltb}
 use lib.ListN.{length, length-map, getD}
 use borrow.Author.Tests.{lt-ltb, ltb-true}
 use Rattle.places.specs.Limits.{bundleMost}
+use Rattle.text.proofs.Each.{both-true}
 use Rattle.record.specs.Certificate.{Certificate}
 use Rattle.certificates.proofs.Standing.{count-few}
 use Rattle.card.specs.Content.{Content, root, bundled, certificateAt}
@@ -27,11 +28,12 @@ use Rattle.order.specs.Paths.{last}
 use Rattle.order.proofs.Simple.{last-among}
 use Rattle.rules.specs.declared.rules.Time.{Time}
 use Rattle.policy.specs.Policy.{policy, chainOf}
-use Rattle.policy.specs.Sound.{soundPlaces, placeLimits, soundRoots, rootLimits, judgedOf}
-use Rattle.policy.specs.Judging.{stands, allStand, qualifiesBy}
+use Rattle.policy.specs.Sound.{soundPlaces, placeLimits, soundRoots, rootLimits, countedPlaces, judgedOf}
+use Rattle.policy.specs.Judging.{stands, counting, allStand, qualifiesBy}
 use Rattle.policy.specs.Qualifies.{qualifies}
-use Rattle.policy.proofs.Chains.{leafSound, bySeat, policy-by-seat}
-use Rattle.policy.proofs.Seats.{all-stand-read, top-read, leaves-read}
+use Rattle.policy.proofs.Lengths.{nonSelfIssued, counts-few}
+use Rattle.policy.proofs.Chains.{after-yes, allBetween, leafSound, bySeat, policy-by-seat}
+use Rattle.policy.proofs.Seats.{all-stand-read, counting-read, top-read, leaves-read}
 
 module _ (s : List ℕ) (c : Card) (e : ℕ) (t : CardRead s c e) (time : Time) where
   abbrev content : Content
@@ -66,11 +68,15 @@ module _ (s : List ℕ) (c : Card) (e : ℕ) (t : CardRead s c e) (time : Time) 
     abbrev leaf : Bool
     leaf = leafSound time (content .host) (place p)
 
-    abbrev between : Bool
-    between = allStand (soundPlaces s time (c .bundle)) (placeLimits s (c .bundle)) 0 l
+    abbrev counted : ℕ
+    counted = countedPlaces s (soundPlaces s time (c .bundle)) (c .bundle)
 
-    abbrev above : ℕ → Bool
-    above r = stands (soundRoots s time (issuersOf rows) (c .roots)) (rootLimits s (issuersOf rows) (c .roots)) (length l) r
+    abbrev between : Bool
+    between = allStand (soundPlaces s time (c .bundle)) (placeLimits s (c .bundle)) counted 0 l
+
+    -- root r may stand above n certificates that count
+    abbrev above : ℕ → ℕ → Bool
+    above n r = stands (soundRoots s time (issuersOf rows) (c .roots)) (rootLimits s (issuersOf rows) (c .roots)) n r
 
     -- a root by which a list of places is judged right is one by which it qualifies
     pub root-judged : (r : ℕ) → qualifiesBy (judgedOf s time c) (p ∷ l) r ≡ qualifies content time (p ∷ l) r
@@ -78,20 +84,21 @@ module _ (s : List ℕ) (c : Card) (e : ℕ) (t : CardRead s c e) (time : Time) 
     root-judged r =
         let low : end < bundleMost = let a = inside end (last-among p l) in let b = count-few bundleMost s _ _ _ (t .bundle) in omega arith in
         rw (lt-ltb end bundleMost low, leaves-read s c e t time p (inside p (here refl)))
-        (ap (λ b. leaf && between && (b && above r)) (root-row-agrees s c e t r end) ∙ by-issuer (issued content (root r) end) refl)
+        (ap (λ b. leaf && between && (b && above (counting counted 0 l) r)) (root-row-agrees s c e t r end) ∙ by-issuer (issued content (root r) end) refl)
       where
         by-issuer : (b : Bool) → issued content (root r) end ≡ b
-            → leaf && between && (b && above r) ≡ (b && policy time (content .host) (chainOf content p l r))
+            → leaf && between && (b && above (counting counted 0 l) r) ≡ (b && policy time (content .host) (chainOf content p l r))
         by-issuer false k = and-no (leaf && between) false refl
         by-issuer true k =
             let asked = issuer-among rows end r (root-row-agrees s c e t r end ∙ k) in
-            rw (
-              all-stand-read s c e t time 0 l (λ i m. inside i (there m)) (omega arith),
-              top-read s c e t time (issuersOf rows) (length l) r (issuer-there r end k) asked few,
-              policy-by-seat time (content .host) (place p) (map place l) (top r),
-              length-map,
-            )
-            refl
+            let after : (i : ℕ) → i among l → i < c .bundle .count = λ i m. inside i (there m) in
+            let n = nonSelfIssued (map place l) in
+            let size : n ≤ 255 = let a = counts-few (map place l) in let b = length-map l place in omega arith in
+            let none : 0 + n ≡ n = omega arith in
+            rw (all-stand-read s c e t time 0 l after (omega arith), policy-by-seat time (content .host) (place p) (map place l) (top r))
+            (after-yes (leaf && allBetween time 0 (map place l)) _ _ (λ yes.
+            let same : counting counted 0 l ≡ n = counting-read s c e t time 0 l after (both-true leaf (allBetween time 0 (map place l)) .0 yes .1) ∙ none in
+            ap (λ m. above m r) same ∙ top-read s c e t time (issuersOf rows) n r (issuer-there r end k) asked size))
 
   -- a root by which a path qualifies is there
   pub qualifies-there : (p : List ℕ) (r : ℕ) → c .roots .count ≤ r → qualifies content time p r ≡ false

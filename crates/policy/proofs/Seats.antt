@@ -1,15 +1,16 @@
 -- What was judged once per certificate is what a chain's certificates are asked where they stand, on a card that was read: those between
--- (`all-stand-read`), the roots that were asked for (`top-read`), the leaf (`leaves-read`). For Qualified.antt. What was judged:
--- specs/Sound.antt; what they are asked where they stand: Chains.antt.
+-- (`all-stand-read`), how many of those count (`counting-read`), the roots that were asked for (`top-read`), the leaf (`leaves-read`). For
+-- Qualified.antt. What was judged: specs/Sound.antt; what they are asked where they stand: Chains.antt.
 use Prim.Native.Nat.{ℕ, _+_, _<_, _≤_}
 use mathlib.Core.Path.{_≡_, refl, sym, ap, ap₂, _∙_}
-use mathlib.Core.Bool.{Bool, true, cond, _&&_}
+use mathlib.Core.Bool.{Bool, true, false, cond, not, _&&_}
 use mathlib.Core.List.{List, [], _∷_, map, List·Memᴰ·head as here, List·Memᴰ·tail as there}
 use native.Mathlib.Omega.{arith}
 use lib.Dec.{ltb}
 use lib.ListN.{length, getD}
 use borrow.Author.Tests.{lt-ltb}
 use Rattle.places.specs.Limits.{rootsMost, bundleMost}
+use Rattle.text.proofs.Each.{both-true}
 use Rattle.fields.specs.Spans.{bytesOf}
 use Rattle.record.specs.Certificate.{Certificate}
 use Rattle.certificates.specs.Certificates.{recordOf, sizeOf}
@@ -22,16 +23,20 @@ use Rattle.card.proofs.Standing.{bundled-stands}
 use Rattle.rows.specs.Rows.{has, rowOf, listing}
 use Rattle.rows.proofs.Places.{has-row}
 use Rattle.rows.proofs.Listing.{listing-there}
-use Rattle.issuing.proofs.Agrees.{size-is, root-is, bundled-is}
+use Rattle.issuing.specs.Issued.{selfIssued}
+use Rattle.issuing.specs.Records.{selfIssuedAt}
+use Rattle.issuing.proofs.Agrees.{size-is, root-is, bundled-is, self-issued-read}
 use Rattle.order.specs.Listing.{_among_}
 use Rattle.rules.specs.Rules.{allows}
 use Rattle.rules.specs.Limits.{limitOf}
 use Rattle.rules.specs.declared.rules.Time.{Time}
 use Rattle.rules.proofs.LeafRead.{for-servers-read, for-host-read}
 use Rattle.rules.proofs.Limits.{limit-allows}
-use Rattle.policy.specs.Sound.{betweenSound, topSound, leafSoundAt, placeOf, rootOf, soundPlaces, placeLimits, soundRoots, rootLimits, soundLeaves}
-use Rattle.policy.specs.Judging.{stands, allStand}
-use Rattle.policy.proofs.Chains.{allBetween, leafSound}
+use Rattle.policy.specs.Policy.{counts}
+use Rattle.policy.specs.Sound.{betweenSound, topSound, leafSoundAt, placeOf, rootOf, soundPlaces, placeLimits, soundRoots, rootLimits, soundLeaves, countedPlaces}
+use Rattle.policy.specs.Judging.{stands, adds, counting, allStand}
+use Rattle.policy.proofs.Lengths.{nonSelfIssued, counts-one}
+use Rattle.policy.proofs.Chains.{after-yes, allBetween, leafSound}
 
 -- one of n, which are no more than most, in their row and in their list
 module _ (most n : ℕ) (few : n ≤ most) (i : ℕ) (h : i < n) where
@@ -40,6 +45,10 @@ module _ (most n : ℕ) (few : n ≤ most) (i : ℕ) (h : i < n) where
 
   in-list : (f : ℕ → ℕ) → getD (listing most (sizeOf most n) f) i 0 ≡ f i
   in-list f = rw (size-is most n few, listing-there f most n i h)
+
+not-counted : (b : Bool) → _≡_ {A = ℕ} (cond (not b) 1 0) (cond b 0 1)
+not-counted true = refl
+not-counted false = refl
 
 module _ (s : List ℕ) (c : Card) (e : ℕ) (t : CardRead s c e) (time : Time) where
   abbrev place : ℕ → Certificate
@@ -70,11 +79,43 @@ module _ (s : List ℕ) (c : Card) (e : ℕ) (t : CardRead s c e) (time : Time) 
       let few = bundle-most in
       rw (lt-ltb i bundleMost (omega arith), sound-read i h, limits-read i h, limit-allows k (place i) f)
 
+  abbrev counted : ℕ
+  counted = countedPlaces s (soundPlaces s time (c .bundle)) (c .bundle)
+
+  -- what a sound place adds
+  adds-read : (i : ℕ) → i < c .bundle .count → betweenSound time (place i) ≡ true → adds counted i ≡ counts (place i)
+  unfolding countedPlaces
+  adds-read i h sound =
+      let few = bundle-most in
+      let counts-here : has i counted ≡ not (selfIssued (place i)) =
+      in-row bundleMost _ few i h (λ j. has j (soundPlaces s time (c .bundle)) && not (selfIssuedAt s (recordOf (c .bundle .count) (c .bundle .records) j))) (omega arith)
+      ∙ rw (sound-read i h, sound, self-issued-read s c e t i h) in
+      ap (λ b. cond b 1 0) counts-here ∙ not-counted (selfIssued (place i))
+
   pub all-stand-read : (k : ℕ) (l : List ℕ) → ((i : ℕ) → i among l → i < c .bundle .count) → k + length l ≤ 256
-      → allStand (soundPlaces s time (c .bundle)) (placeLimits s (c .bundle)) k l ≡ allBetween time k (map place l)
+      → allStand (soundPlaces s time (c .bundle)) (placeLimits s (c .bundle)) counted k l ≡ allBetween time k (map place l)
   unfolding allStand allBetween
   all-stand-read k [] h f = refl
-  all-stand-read k (i ∷ l) h f = ap₂ _&&_ (stands-read k i (h i (here refl)) (omega arith)) (all-stand-read (k + 1) l (λ j m. h j (there m)) (omega arith))
+  all-stand-read k (i ∷ l) h f =
+      let inside = h i (here refl) in
+      let one = counts-one (place i) in
+      ap₂ _&&_ (stands-read k i inside (omega arith)) refl
+      ∙ after-yes (betweenSound time (place i) && allows k (place i)) _ _ (λ yes.
+      ap (λ n. allStand (soundPlaces s time (c .bundle)) (placeLimits s (c .bundle)) counted (k + n) l)
+      (adds-read i inside (both-true (betweenSound time (place i)) (allows k (place i)) .0 yes .0))
+      ∙ all-stand-read (k + counts (place i)) l (λ j m. h j (there m)) (omega arith))
+
+  -- how many of these places count, where each may stand
+  pub counting-read : (k : ℕ) (l : List ℕ) → ((i : ℕ) → i among l → i < c .bundle .count) → allBetween time k (map place l) ≡ true
+      → counting counted k l ≡ k + nonSelfIssued (map place l)
+  unfolding counting allBetween nonSelfIssued
+  counting-read k [] h b = omega arith
+  counting-read k (i ∷ l) h b =
+      let p = both-true (betweenSound time (place i) && allows k (place i)) (allBetween time (k + counts (place i)) (map place l)) .0 b in
+      let sound = both-true (betweenSound time (place i)) (allows k (place i)) .0 (p .0) .0 in
+      let rest = counting-read (k + counts (place i)) l (λ j m. h j (there m)) (p .1) in
+      let z : k + counts (place i) + nonSelfIssued (map place l) ≡ k + nonSelfIssued (map place (i ∷ l)) = omega arith in
+      ap (λ n. counting counted (k + n) l) (adds-read i (h i (here refl)) sound) ∙ rest ∙ z
 
   -- ---- the roots
 

@@ -1,6 +1,6 @@
 -- What filling the seats promises (src/seating.rt), of the places or of the roots alike: that each of a row has a limit, that each is in
--- the row of its limit, and the rows filled. What the seats are: `Seated` of Standing.antt.
-use Prim.Native.Nat.{ℕ, _≤_, _<_, min}
+-- the row of its limit, and the rows filled; then the rows of one kind among all. What the seats are: `Seated` of Standing.antt.
+use Prim.Native.Nat.{ℕ, _+_, _≤_, _<_, min}
 use mathlib.Core.Bool.{false, _&&_}
 use mathlib.Core.List.{List}
 use mathlib.Core.Path.{_≡_}
@@ -20,7 +20,21 @@ pub record Entered (last sound : ℕ) (limits rows : List ℕ) : Type 0 where
   pub size : length rows ≡ bundleMost
   pub put : (n i : ℕ) → n < bundleMost → has i (getD rows n 0) ≡ has i sound && eqb (min (getD limits i 0) last) n
 
--- row n, up to the last, has those that may stand with n certificates between them and the leaf
+-- row n, up to the last, has those that may stand above n certificates that count
 pub record Filled (last sound : ℕ) (limits rows : List ℕ) : Type 0 where
   pub size : length rows ≡ bundleMost
   pub may : (n i : ℕ) → n < bundleMost → has i (getD rows n 0) ≡ leb n last && stands sound limits n i
+
+-- ---- among the rows of all kinds
+
+-- there are the rows of a kind from there on, and they are zero
+pub record Empty (from : ℕ) (rows : List ℕ) : Type 0 where
+  pub room : from + bundleMost ≤ length rows
+  pub zeros : (n : ℕ) → n < bundleMost → getD rows (from + n) 0 ≡ 0
+
+-- the rows of a kind are filled, and the others are as they were
+pub record FilledFrom (from last sound : ℕ) (limits before rows : List ℕ) : Type 0 where
+  pub size : length rows ≡ length before
+  pub may : (n i : ℕ) → n < bundleMost → has i (getD rows (from + n) 0) ≡ leb n last && stands sound limits n i
+  pub lower : (k : ℕ) → k < from → getD rows k 0 ≡ getD before k 0
+  pub upper : (k : ℕ) → from + bundleMost ≤ k → getD rows k 0 ≡ getD before k 0

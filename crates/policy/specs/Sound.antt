@@ -1,9 +1,9 @@
--- What is judged once per certificate: what the policy asks of it by where it stands in a chain, its path length aside, and its limit; and
--- all the facts of a card that a search asks (`judgedOf`), which is the contract of `judge`.
+-- What is judged once per certificate: what the policy asks of it by where it stands in a chain, its path length aside; its limit; and
+-- whether it counts. Then all the facts of a card that a search asks (`judgedOf`), which is the contract of `judge`.
 -- Not here: the policy on a chain (Policy.antt), and that it comes to this (`policy-by-seat` of proofs/Chains.antt, and proofs/Seats.antt);
 -- a path judged by these facts (Judging.antt).
 use Prim.Native.Nat.{ℕ}
-use mathlib.Core.Bool.{Bool, cond, _&&_}
+use mathlib.Core.Bool.{Bool, cond, not, _&&_}
 use mathlib.Core.List.{List}
 use lib.ListN.{replicate}
 use Rattle.places.specs.Limits.{rootsMost, bundleMost}
@@ -16,7 +16,7 @@ use Rattle.certificates.specs.declared.roots.Roots.{Roots}
 use Rattle.certificates.specs.declared.bundle.Bundle.{Bundle}
 use Rattle.card.specs.declared.Card.{Card}
 use Rattle.rows.specs.Rows.{has, rowOf, listing}
-use Rattle.issuing.specs.Records.{bundleRows, rootRows, issuersOf}
+use Rattle.issuing.specs.Records.{selfIssuedAt, bundleRows, rootRows, issuersOf}
 use Rattle.rules.specs.Rules.{inDate, wellFormed, handled, authority}
 use Rattle.rules.specs.Limits.{limitOf}
 use Rattle.rules.specs.Records.{forServersAt, forHostAt}
@@ -64,13 +64,17 @@ rootLimits s asked r = listing rootsMost (sizeOf rootsMost (r .count)) (λ i. co
 unfoldable pub soundLeaves : List ℕ → Time → List ℕ → Bundle → ℕ
 soundLeaves s time host b = rowOf (λ i. leafSoundAt s time host (recordOf (b .count) (b .records) i)) (sizeOf bundleMost (b .count))
 
+-- of these places of the bundle those that path lengths count: they are not self-issued
+unfoldable pub countedPlaces : List ℕ → ℕ → Bundle → ℕ
+countedPlaces s sound b = rowOf (λ i. has i sound && not (selfIssuedAt s (recordOf (b .count) (b .records) i))) (sizeOf bundleMost (b .count))
+
 -- ---- the facts
 
 -- the roots that issued any of the bundle
 abbrev pub rootIssuers : List ℕ → Card → ℕ
 rootIssuers s c = issuersOf (rootRows s (c .roots) (c .bundle) (c .verdicts))
 
--- who issued whom, and who may stand where: of the roots those that issued any, since no path reaches another
+-- who issued whom, who may stand where, and who counts there: of the roots those that issued any, since no path reaches another
 unfoldable pub judgedOf : List ℕ → Time → Card → Judged
 judgedOf s time c =
     record {
@@ -78,6 +82,7 @@ judgedOf s time c =
       between = record { sound = soundPlaces s time (c .bundle); limits = placeLimits s (c .bundle) };
       above = record { sound = soundRoots s time (rootIssuers s c) (c .roots); limits = rootLimits s (rootIssuers s c) (c .roots) };
       leaves = soundLeaves s time (bytesOf (c .task .host .name) s) (c .bundle);
+      counted = countedPlaces s (soundPlaces s time (c .bundle)) (c .bundle);
     }
 
 -- what stands where no card was read
@@ -88,4 +93,5 @@ fresh-judged =
       between = record { sound = 0; limits = replicate bundleMost 0 };
       above = record { sound = 0; limits = replicate rootsMost 0 };
       leaves = 0;
+      counted = 0;
     }

@@ -8,9 +8,11 @@ use extensions::Extensions;
 use fields::part;
 use issuing::Issuing;
 use issuing::issuers_of;
+use issuing::self_issued;
 use issuing::who_issued;
 use record::Head;
 use record::Record;
+use rows::has;
 use rows::lowest;
 use rows::with;
 use rows::without;
@@ -29,10 +31,10 @@ ghost use mathlib.Core.Bool.{_&&_};
 ghost use Rattle.record.specs.Parts.{certificateBy};
 ghost use Rattle.record.specs.declared.Record.{Record};
 ghost use Rattle.rules.specs.Records.{forServersAt, forHostAt};
-ghost use Rattle.policy.specs.Sound.{leafSoundAt, betweenSound, topSound, soundPlaces, placeLimits, soundRoots, rootLimits, soundLeaves, judgedOf, fresh-judged};
+ghost use Rattle.policy.specs.Sound.{leafSoundAt, betweenSound, topSound, soundPlaces, placeLimits, soundRoots, rootLimits, soundLeaves, countedPlaces, judgedOf, fresh-judged};
 
-// The places of the bundle that may stand between leaf and root, and for each how many certificates its path length lets stand
-// between it and the leaf.
+// The places of the bundle that may stand between leaf and root, and for each how many certificates that count its path length lets stand
+// below it.
 pub struct Between {
     pub sound: u64,
     pub limits: [u8; Bundle::MOST],
@@ -44,12 +46,14 @@ pub struct Above {
     pub limits: [u8; Roots::MOST],
 }
 
-// All the facts of a card that a search asks; at last the places that are sound as the leaf.
+// All the facts of a card that a search asks; at last the places that are sound as the leaf, and of those between the ones that path
+// lengths count.
 pub struct Judged {
     pub issuing: Issuing,
     pub between: Between,
     pub above: Above,
     pub leaves: u64,
+    pub counted: u64,
 }
 
 impl Judged {
@@ -71,6 +75,7 @@ impl Judged {
                 limits: [0u8; Roots::MOST],
             },
             leaves: 0,
+            counted: 0,
         }
     }
 }
@@ -84,12 +89,32 @@ pub fn judge(file: &[u8], time: Time, card: Card) -> Judged
     let between = places_between(file, time, card.bundle);
     let above = roots_above(file, time, issuers_of(by_roots), card.roots);
     let leaves = leaves_in(file, time, part(file, card.task.host.name), card.bundle);
+    let counted = counted_in(file, between.sound, card.bundle);
     Judged {
         issuing,
         between,
         above,
         leaves,
+        counted,
     }
+}
+
+// Of these places those that path lengths count: they are not self-issued. The others' names are not compared.
+fn counted_in(file: &[u8], sound: u64, bundle: Bundle) -> u64
+    ensures { λ r. ⌜ r ≡ countedPlaces (now (file .entry)) sound bundle ⌝ }
+{
+    let n = bundle.size();
+    let mut counted: u64 = 0;
+    let mut i: u8 = 0;
+    while i < n {
+        if has(sound, i) {
+            if !self_issued(file, bundle.record(BundlePlace(i))) {
+                counted = with(counted, i);
+            }
+        }
+        i += 1;
+    }
+    counted
 }
 
 // The places that are sound as the leaf.

@@ -13,19 +13,26 @@ ghost use mathlib.Core.Path.{_≡_};
 ghost use Prim.Native.Nat.{ℕ, _<_, min};
 ghost use lib.ListN.{length, replicate};
 ghost use Rattle.places.specs.Limits.{bundleMost};
-ghost use Rattle.policy.specs.Filling.{Limited, Entered, Filled};
+ghost use Rattle.policy.specs.Filling.{Limited, Entered, Filled, Empty, FilledFrom};
 ghost use Rattle.policy.specs.Standing.{Seated};
 
-// Rows for each number of certificates between a seat and the leaf: the places of the bundle that may stand there, after those the roots
-// that may, and at last the places that may be the leaf itself.
+// Three rows for each seat: the roots that may stand above, the places that may come next and count, and those that may and don't. Seat 0
+// is none, seat 1 is before the leaf, and each after it is above the leaf and one certificate more that counts.
 pub struct Seats {
     pub rows: [u64; Seats::ROWS],
 }
 
 impl Seats {
-    pub const LEAVES: usize = 2 * Bundle::MOST;
+    pub const MOST: usize = Bundle::MOST + 2;
 
-    pub const ROWS: usize = Seats::LEAVES + 1;
+    // Where the rows of each kind begin.
+    pub const ROOTS: usize = 0;
+
+    pub const COUNTED: usize = Seats::MOST;
+
+    pub const OTHERS: usize = 2 * Seats::MOST;
+
+    pub const ROWS: usize = 3 * Seats::MOST;
 }
 
 // The seats of a card's certificates, in paths of no more than so many places after the leaf.
@@ -33,23 +40,27 @@ pub fn seats_of(judged: Judged, after: u8) -> Seats
     ensures { λ r. ⌜ Seated judged after (r .rows) ⌝ }
 {
     let last = lesser(after as usize, Bundle::MOST - 1);
-    let mut rows = [0u64; Seats::ROWS];
-    rows[Seats::LEAVES] = judged.leaves;
-    let places = judged.between.limits;
+    let tops = shared(judged.above.sound, below(Roots::MOST as u8));
+    let between = shared(judged.between.sound, below(Bundle::MOST as u8));
+    let counted = shared(between, judged.counted);
+    let others = without(between, judged.counted);
     let roots = judged.above.limits;
-    fill(
-        &mut rows[0..Bundle::MOST],
-        last,
-        shared(judged.between.sound, below(Bundle::MOST as u8)),
-        &places,
-    );
-    fill(
-        &mut rows[Bundle::MOST..Seats::LEAVES],
-        last,
-        shared(judged.above.sound, below(Roots::MOST as u8)),
-        &roots,
-    );
+    let places = judged.between.limits;
+    let mut rows = [0u64; Seats::ROWS];
+    fill_from(&mut rows, Seats::ROOTS + 2, last, tops, &roots);
+    fill_from(&mut rows, Seats::COUNTED + 2, last, counted, &places);
+    fill_from(&mut rows, Seats::OTHERS + 2, last, others, &places);
+    rows[Seats::COUNTED + 1] = judged.leaves;
     Seats { rows }
+}
+
+// Fills the rows of a kind, which begin at `from`, and leaves the others as they are.
+fn fill_from(rows: &mut [u64], from: usize, last: usize, sound: u64, limits: &[u8])
+    requires { ⌜ Empty from (now rows) × (last < bundleMost) ⌝ }
+    requires { ⌜ Limited sound (now limits) ⌝ }
+    ensures { λ _. ⌜ FilledFrom from last sound (now (limits .entry)) (now (rows .entry)) (now (rows .exit)) ⌝ }
+{
+    fill(&mut rows[from..from + Bundle::MOST], last, sound, limits);
 }
 
 // Whoever may stand above so many certificates may stand above fewer: each is put in the last row where it may stand, and then handed on.

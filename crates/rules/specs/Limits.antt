@@ -9,6 +9,6 @@ abbrev pub orNoLimit : Option ℕ → ℕ
 orNoLimit none = 255
 orNoLimit (some p) = p
 
--- how many certificates its path length lets stand between it and the leaf
+-- how many certificates that count its path length lets stand between it and the leaf
 unfoldable pub limitOf : Certificate → ℕ
 limitOf c = orNoLimit (c .path-length)

@@ -40,7 +40,7 @@ abbrev pub atMost : ℕ → Option ℕ → Bool
 atMost n none = true
 atMost n (some p) = leb n p
 
--- a path length, if there is one, lets n certificates stand between this one and the leaf
+-- a path length, if there is one, lets n certificates that count stand between this one and the leaf
 unfoldable pub allows : ℕ → Certificate → Bool
 allows n c = atMost n (c .path-length)
 

@@ -70,7 +70,7 @@ pub fn authority(head: Head) -> bool
     false
 }
 
-// How many certificates a path length lets stand between this one and the leaf; no limit where there is none.
+// How many certificates that count a path length lets stand between this one and the leaf; no limit where there is none.
 pub fn limit(file: &[u8], head: Head, cert: Record) -> u8
     ensures { λ r. ⌜ r ≡ limitOf (certificateBy head cert (now (file .entry))) ⌝ }
 {

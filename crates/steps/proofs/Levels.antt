@@ -22,7 +22,7 @@ use Rattle.order.proofs.Tree.{kid-simple, start-simple}
 use Rattle.rows.specs.Rows.{has, joined, left, common, highest, below}
 use Rattle.rows.proofs.Places.{has-none, has-joined, has-dropped, has-common}
 use Rattle.rows.proofs.Upper.{highest-has, highest-above, highest-place, has-below}
-use Rattle.policy.specs.Standing.{begun, over, addedAll, rootsOver}
+use Rattle.policy.specs.Standing.{begun, over, added, addedAll, rootsOver}
 use Rattle.policy.specs.declared.standing.Standing.{Standing}
 use Rattle.policy.proofs.Adding.{standing-more, over-more}
 use Rattle.reply.proofs.Slots.{length-snoc}
@@ -162,7 +162,7 @@ module _ (n : ℕ) (ahead place : List ℕ) (some : 1 ≤ n) (leaf : getD ahead 
       clash false = refl
 
   -- every place is free, and the path begins
-  pub first-ready : (seats : List ℕ) (levels : List Level) → levelAt levels 0 ≡ record { free = below n; standing = begun seats } → length levels ≡ bundleMost → n ≤ bundleMost
+  pub first-ready : (seats : List ℕ) (levels : List Level) → levelAt levels 0 ≡ record { free = below n; standing = begun } → length levels ≡ bundleMost → n ≤ bundleMost
       → (rows : List ℕ) → Ready (placesBy rows n) seats (record { place = place; ahead = ahead; levels = levels; depth = 0 })
   unfolding addedAll
   first-ready seats levels level long few rows = record {
@@ -248,8 +248,9 @@ module _ {g : Places} {seats : List ℕ} {st : List (List ℕ)} {ahead : List �
     path-is = rw add-one (take-suc-set place d i (omega (arith, S .lp, S .deep)))
 
     -- its roots
-    pub roots-are : (issued : List ℕ) {tops : ℕ} → tops ≡ common (over (level .standing) i) (getD issued i 0) → tops ≡ rootsOver issued seats (snoc (take d place) i)
-    roots-are issued e = e ∙ rw (S .level .after .stands) (sym (over-more seats issued (take d place) i))
+    pub roots-are : (issued : List ℕ) {after : Standing} {tops : ℕ} → after ≡ added seats (level .standing) i → tops ≡ common (over seats after) (getD issued i 0)
+        → tops ≡ rootsOver issued seats (snoc (take d place) i)
+    roots-are issued a e = e ∙ rw (a, S .level .after .stands) (sym (over-more seats issued (take d place) i))
 
     -- what does not change
 

@@ -25,7 +25,7 @@ pub(crate) fn run(n: u8, judged: Judged, budget: u64) -> End
     let rows = issuing.bundle;
     let roots = issuing.roots;
     let seats = seats_of(judged, n - 1).rows;
-    walk(first(n, &seats), n, &rows, &roots, &seats, budget)
+    walk(first(n), n, &rows, &roots, &seats, budget)
 }
 
 // What is answered: the reply, and the path of the first so many places.

@@ -20,7 +20,7 @@ ghost use Prim.Native.Nat.{ℕ, _+_, _≤_, _<_};
 ghost use lib.ListN.{set};
 ghost use Rattle.places.specs.Limits.{bundleMost};
 ghost use Rattle.question.specs.Question.{placesBy};
-ghost use Rattle.policy.specs.Standing.{over};
+ghost use Rattle.policy.specs.Standing.{over, added};
 ghost use Rattle.rows.specs.Rows.{joined, left, common, highest};
 ghost use Rattle.steps.specs.Parts.{rootsSeated, stackOf, Ready, onward, Ends, Stopped};
 
@@ -49,12 +49,12 @@ pub(crate) struct End {
 }
 
 // Where a search begins: the leaf alone waits.
-pub(crate) fn first(n: u8, seats: &[u64; Seats::ROWS]) -> Depths
+pub(crate) fn first(n: u8) -> Depths
     requires { ⌜ (1 ≤ n) × (n ≤ bundleMost) ⌝ }
-    ensures ready { λ r. ⌜ ((rows : List ℕ) → Ready (placesBy rows n) (now (seats .entry)) r) ⌝ }
+    ensures ready { λ r. ⌜ ((rows seats : List ℕ) → Ready (placesBy rows n) seats r) ⌝ }
     ensures leaf { λ r. ⌜ stackOf n r ≡ (0 ∷ []) ∷ [] ⌝ }
 {
-    let standing = begun(seats);
+    let standing = begun();
     let level = Level {
         free: below(n),
         standing,
@@ -81,21 +81,26 @@ fn children(level: Level, i: u8, issuers: u64) -> u64
     shared(without(level.free, with(0, i)), issuers)
 }
 
-// The roots by which a path qualifies that goes on by place i, which these roots issued.
-fn roots_over(level: Level, i: u8, issuers: u64) -> u64
-    ensures { λ r. ⌜ r ≡ common (over (level .standing) i) issuers ⌝ }
+// How a path stands that goes on by place i.
+fn standing_by(level: Level, i: u8, seats: &[u64; Seats::ROWS]) -> Standing
+    ensures { λ r. ⌜ r ≡ added (now (seats .entry)) (level .standing) i ⌝ }
 {
-    let standing = level.standing;
-    shared(over(standing, i), issuers)
+    let before = level.standing;
+    added(seats, before, i)
 }
 
-// The level after one, where the path goes on by place i.
-fn onward(level: Level, i: u8, seats: &[u64; Seats::ROWS]) -> Level
-    ensures { λ r. ⌜ r ≡ onward (now (seats .entry)) level i ⌝ }
+// The roots by which a path qualifies that stands so, and whose last place these roots issued.
+fn roots_over(standing: Standing, issuers: u64, seats: &[u64; Seats::ROWS]) -> u64
+    ensures { λ r. ⌜ r ≡ common (over (now (seats .entry)) standing) issuers ⌝ }
+{
+    shared(over(seats, standing), issuers)
+}
+
+// The level after one, where the path goes on by place i and then stands so.
+fn onward(level: Level, i: u8, standing: Standing) -> Level
+    ensures { λ r. ⌜ ((seats : List ℕ) → standing ≡ added seats (level .standing) i → r ≡ onward seats level i) ⌝ }
 {
     let free = without(level.free, with(0, i));
-    let before = level.standing;
-    let standing = added(seats, before, i);
     Level { free, standing }
 }
 
@@ -136,12 +141,13 @@ pub(crate) fn walk(
         place[d] = i;
         row = without(row, with(0, i));
         let next = children(here, i, rows[i as usize]);
-        let tops = roots_over(here, i, roots[i as usize]);
+        let standing = standing_by(here, i, seats);
+        let tops = roots_over(standing, roots[i as usize], seats);
         let len = d + 1;
         if next != 0 {
             ahead[d] = row;
             levels[d] = here;
-            here = onward(here, i, seats);
+            here = onward(here, i, standing);
             row = next;
             d = len;
         }

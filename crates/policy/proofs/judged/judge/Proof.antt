@@ -22,9 +22,13 @@ part-requires c κs = search needs
 leaves-in-requires : tie.Need-leaves-in-requires
 leaves-in-requires c κs = search needs
 
+counted-in-requires : tie.Need-counted-in-requires
+counted-in-requires c κs = search needs
+
 returns : tie.Need-returns
 returns c =
-    let p = c .before in
+    let leaves = c .before in
+    let p = leaves .before in
     let above = p .before in
     let asked = above .before in
     let b = asked .before in
@@ -32,7 +36,7 @@ returns c =
     let issued = i .who-issued .ensures in
     let a = i .before .before .args in
     judged-is (a .file .now) (a .time) (a .card) (issued .0) (issued .1) (b .places-between .ensures .0) (b .places-between .ensures .1) (asked .issuers-of .ensures)
-    (above .roots-above .ensures .0) (above .roots-above .ensures .1) (p .part .ensures) (c .leaves-in .ensures)
+    (above .roots-above .ensures .0) (above .roots-above .ensures .1) (p .part .ensures) (leaves .leaves-in .ensures) (c .counted-in .ensures)
 
 pub judge-spec : {M : Type 1} → statement M
 judge-spec =
@@ -44,4 +48,5 @@ judge-spec =
     roots-above-requires
     part-requires
     leaves-in-requires
+    counted-in-requires
     returns)

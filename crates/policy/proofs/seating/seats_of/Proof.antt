@@ -1,30 +1,47 @@
--- `seats_of` fills the seats of the places and those of the roots, and puts the leaves after them.
+-- `seats_of` fills the three kinds of rows, and puts the leaves before the places that count.
 use native.Mathlib.Omega.{arith}
-use mathlib.Core.Path.{refl}
-use lib.ListN.{length-map, length-append}
+use Prim.Native.Nat.{_+_, _*_}
+use mathlib.Core.Path.{_≡_, sym, ap, _∙_}
+use lib.ListN.{length, replicate, length-map}
 use Rattle.places.specs.Limits.{rootsMost, bundleMost}
-use Rattle.policy.proofs.Filling.{limited, seats-filled, second-lent, second-back}
+use Rattle.rows.specs.Rows.{common, left, below}
+use Rattle.policy.specs.Filling.{FilledFrom}
+use Rattle.policy.specs.Standing.{seatsMost, placesBetween}
+use Rattle.policy.specs.declared.judged.Judged.{Judged}
+use Rattle.policy.proofs.ByKind.{limited, limited-common, limited-left, unfilled-starts, unfilled-empty, unfilled-next, seats-filled}
 use borrow.Author.Needs.{needs}
 use Rattle.policy.proofs.seating.seats_of.Statement.{statement}
 use Rattle.policy.proofs.seating.seats_of.Tie as tie
+
+-- as many limits as there may be places and roots
+places-long : (s : tie.Start) → length (s .args .judged .between .limits) ≡ bundleMost
+places-long s = simp length-map at (s .good .0 .1 .1 .1 .0 .1 .1 .1 .0 .1 .0 .1)
+
+roots-long : (s : tie.Start) → length (s .args .judged .above .limits) ≡ rootsMost
+roots-long s = simp length-map at (s .good .0 .1 .1 .1 .1 .0 .1 .1 .1 .0 .1 .0 .1)
+
+-- ---- when the rows of those who may stand are known: what was judged, and what these rows are
+
+abbrev judged : tie.After-without → Judged
+judged w = w .before .before .before .before .before .before .before .args .judged
+
+tops : (w : tie.After-without) → w .before .before .before .before .shared .result ≡ common (judged w .above .sound) (below rootsMost)
+tops w = w .before .before .before .before .shared .ensures ∙ ap (common (judged w .above .sound)) (w .before .before .before .before .before .below .ensures)
+
+between : (w : tie.After-without) → w .before .before .shared2 .result ≡ placesBetween (judged w)
+between w = w .before .before .shared2 .ensures ∙ ap (common (judged w .between .sound)) (w .before .before .before .below2 .ensures)
+
+counted : (w : tie.After-without) → w .before .shared3 .result ≡ common (placesBetween (judged w)) (judged w .counted)
+counted w = w .before .shared3 .ensures ∙ ap (λ row. common row (judged w .counted)) (between w)
+
+others : (w : tie.After-without) → w .without .result ≡ left (placesBetween (judged w)) (judged w .counted)
+others w = w .without .ensures ∙ ap (λ row. left row (judged w .counted)) (between w)
 
 sub-lesser : tie.Need-sub-lesser
 sub-lesser c = search needs
 
 lesser-requires : tie.Need-lesser-requires
 lesser-requires c κs = search needs
-
-array-write-rows : tie.Need-array-write-rows
-array-write-rows c = search needs
-
-sub-fill : tie.Need-sub-fill
-sub-fill c = search needs
-
-part-rows-start : tie.Need-part-rows-start
-part-rows-start c = search needs
-
-part-rows-end : tie.Need-part-rows-end
-part-rows-end c = search needs
 
 cast-below : tie.Need-cast-below
 cast-below c = search needs
@@ -35,26 +52,6 @@ below-requires c κs = search needs
 shared-requires : tie.Need-shared-requires
 shared-requires c κs = search needs
 
-slice-aggregate-fill : tie.Need-slice-aggregate-fill
-slice-aggregate-fill c = search needs
-
-fill-requires : tie.Need-fill-requires
-fill-requires c κs =
-    let l = c .before .before .before .before .before .before in
-    let places = simp length-map at (l .before .good .0 .1 .1 .1 .0 .1 .1 .1 .0 .1 .0 .1) in (
-      (refl, omega (arith, l .lesser .ensures)),
-      rw (c .before .shared .ensures, c .before .before .below .ensures) (limited _ bundleMost _ places (omega arith)),
-    )
-
-sub-fill-2 : tie.Need-sub-fill-2
-sub-fill-2 c = search needs
-
-part-rows-start-2 : tie.Need-part-rows-start-2
-part-rows-start-2 c = search needs
-
-part-rows-end-2 : tie.Need-part-rows-end-2
-part-rows-end-2 c = simp length-append (omega (arith, c .before .fill .ensures .size))
-
 cast-below-2 : tie.Need-cast-below-2
 cast-below-2 c = search needs
 
@@ -64,26 +61,91 @@ below-requires-2 c κs = search needs
 shared-requires-2 : tie.Need-shared-requires-2
 shared-requires-2 c κs = search needs
 
-slice-aggregate-fill-2 : tie.Need-slice-aggregate-fill-2
-slice-aggregate-fill-2 c = search needs
+shared-requires-3 : tie.Need-shared-requires-3
+shared-requires-3 c κs = search needs
 
-fill-requires-2 : tie.Need-fill-requires-2
-fill-requires-2 c κs =
-    let f = c .before .before .before .before .before in
-    let l = f .before .before .before .before .before .before .before in
-    let roots = simp length-map at (l .before .good .0 .1 .1 .1 .1 .0 .1 .1 .1 .0 .1 .0 .1) in (
-      (second-lent (f .fill .last .0) (f .fill .ensures .size) _, omega (arith, l .lesser .ensures)),
-      rw (c .before .shared2 .ensures, c .before .before .below2 .ensures) (limited _ rootsMost _ roots (omega arith)),
+without-requires : tie.Need-without-requires
+without-requires c κs = search needs
+
+slice-aggregate-fill-from : tie.Need-slice-aggregate-fill-from
+slice-aggregate-fill-from c = search needs
+
+add-fill-from : tie.Need-add-fill-from
+add-fill-from c = search needs
+
+slice-aggregate-fill-from-2 : tie.Need-slice-aggregate-fill-from-2
+slice-aggregate-fill-from-2 c = search needs
+
+fill-from-requires : tie.Need-fill-from-requires
+fill-from-requires c κs =
+    let w = c .before .before .before .before in (
+      (unfilled-empty _ _ unfilled-starts 2 (omega arith) (omega arith), omega (arith, w .before .before .before .before .before .before .lesser .ensures)),
+      rw (tops w) (limited _ rootsMost _ (roots-long (w .before .before .before .before .before .before .before)) (omega arith)),
     )
+
+-- the kind of the roots
+one : (c : tie.After-fill-from) → let w = c .before .before .before .before .before in
+    FilledFrom 2 (w .before .before .before .before .before .before .lesser .result) (common (judged w .above .sound) (below rootsMost)) (judged w .above .limits) (replicate (3 * seatsMost) 0) (c .fill-from .last .0)
+one c = rw (tops (c .before .before .before .before .before)) at (c .fill-from .ensures)
+
+slice-aggregate-fill-from-3 : tie.Need-slice-aggregate-fill-from-3
+slice-aggregate-fill-from-3 c = search needs
+
+add-fill-from-2 : tie.Need-add-fill-from-2
+add-fill-from-2 c = search needs
+
+slice-aggregate-fill-from-4 : tie.Need-slice-aggregate-fill-from-4
+slice-aggregate-fill-from-4 c = search needs
+
+fill-from-requires-2 : tie.Need-fill-from-requires-2
+fill-from-requires-2 c κs =
+    let f = c .before .before .before in
+    let w = f .before .before .before .before .before in (
+      (unfilled-empty _ _ (unfilled-next _ _ unfilled-starts 2 (omega arith) _ _ _ _ (one f)) (seatsMost + 2) (omega arith) (omega arith), omega (arith, w .before .before .before .before .before .before .lesser .ensures)),
+      rw (counted w) (limited-common _ _ _ (limited _ bundleMost _ (places-long (w .before .before .before .before .before .before .before)) (omega arith))),
+    )
+
+-- the kind of the places that count
+two : (c : tie.After-fill-from2) → let f = c .before .before .before .before in let w = f .before .before .before .before .before in
+    FilledFrom (seatsMost + 2) (w .before .before .before .before .before .before .lesser .result) (common (placesBetween (judged w)) (judged w .counted)) (judged w .between .limits) (f .fill-from .last .0) (c .fill-from2 .last .0)
+two c = rw (counted (c .before .before .before .before .before .before .before .before .before)) at (c .fill-from2 .ensures)
+
+slice-aggregate-fill-from-5 : tie.Need-slice-aggregate-fill-from-5
+slice-aggregate-fill-from-5 c = search needs
+
+add-fill-from-3 : tie.Need-add-fill-from-3
+add-fill-from-3 c = search needs
+
+slice-aggregate-fill-from-6 : tie.Need-slice-aggregate-fill-from-6
+slice-aggregate-fill-from-6 c = let w = c .before .before .before .before .before .before .before .before .before .before .before .before in sym (places-long (w .before .before .before .before .before .before .before))
+
+fill-from-requires-3 : tie.Need-fill-from-requires-3
+fill-from-requires-3 c κs =
+    let g = c .before .before .before in
+    let f = g .before .before .before .before in
+    let w = f .before .before .before .before .before in
+    let u = unfilled-next _ _ unfilled-starts 2 (omega arith) _ _ _ _ (one f) in (
+      (unfilled-empty _ _ (unfilled-next _ _ u (seatsMost + 2) (omega arith) _ _ _ _ (two g)) (2 * seatsMost + 2) (omega arith) (omega arith), omega (arith, w .before .before .before .before .before .before .lesser .ensures)),
+      rw (others w) (limited-left _ _ _ (limited _ bundleMost _ (places-long (w .before .before .before .before .before .before .before)) (omega arith))),
+    )
+
+add-rows : tie.Need-add-rows
+add-rows c = search needs
+
+mul-rows : tie.Need-mul-rows
+mul-rows c = search needs
+
+array-write-rows : tie.Need-array-write-rows
+array-write-rows c = search needs
 
 returns : tie.Need-returns
 returns c =
-    let f = c .before .before .before .before .before .before .before in
-    let l = f .before .before .before .before .before .before .before in
-    let places = rw (f .before .before .shared .ensures, f .before .before .before .below .ensures, l .lesser .ensures) at (f .fill .ensures) in
-    let q = c .before .before .before in
-    let roots = rw (q .shared2 .ensures, q .before .below2 .ensures, l .lesser .ensures) at (c .before .fill2 .ensures) in
-    rw (second-back _ (places .size) _ _) (seats-filled (l .before .args .judged) (l .before .args .after) _ _ places roots)
+    let h = c .before in
+    let g = h .before .before .before .before in
+    let f = g .before .before .before .before in
+    let w = f .before .before .before .before .before in
+    let three = rw (others w) at (h .fill-from3 .ensures) in
+    seats-filled (judged w) (w .before .before .before .before .before .before .before .args .after) _ (w .before .before .before .before .before .before .lesser .ensures) _ _ _ _ unfilled-starts (one f) (two g) three
 
 pub seats-of-spec : {M : Type 1} → statement M
 seats-of-spec =
@@ -91,21 +153,27 @@ seats-of-spec =
     (tie.spec
     sub-lesser
     lesser-requires
-    array-write-rows
-    sub-fill
-    part-rows-start
-    part-rows-end
     cast-below
     below-requires
     shared-requires
-    slice-aggregate-fill
-    fill-requires
-    sub-fill-2
-    part-rows-start-2
-    part-rows-end-2
     cast-below-2
     below-requires-2
     shared-requires-2
-    slice-aggregate-fill-2
-    fill-requires-2
+    shared-requires-3
+    without-requires
+    slice-aggregate-fill-from
+    add-fill-from
+    slice-aggregate-fill-from-2
+    fill-from-requires
+    slice-aggregate-fill-from-3
+    add-fill-from-2
+    slice-aggregate-fill-from-4
+    fill-from-requires-2
+    slice-aggregate-fill-from-5
+    add-fill-from-3
+    slice-aggregate-fill-from-6
+    fill-from-requires-3
+    add-rows
+    mul-rows
+    array-write-rows
     returns)

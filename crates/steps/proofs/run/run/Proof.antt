@@ -16,13 +16,13 @@ first-requires c κs = search needs
 walk-requires : tie.Need-walk-requires
 walk-requires c κs =
     let f = c .before .before .before in
-    let s = f .before .before .before .before .before .before .before in
-    (s .pre .1, f .first .ensures .0 (s .args .judged .issuing .bundle))
+    let s = f .before .before .before .before .before .before in
+    (s .pre .1, f .first .ensures .0 (s .args .judged .issuing .bundle) _)
 
 returns : tie.Need-returns
 returns c =
     let f = c .before .before .before .before in
-    let t = f .before .before .before in
+    let t = f .before .before in
     let s = t .before .before .before .before in
     settled (s .args .judged) (s .args .n) (s .pre .0) (s .pre .1) _ (t .seats-of .ensures) (rw (f .first .ensures .1) at (c .walk .ensures))
 

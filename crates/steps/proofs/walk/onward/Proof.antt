@@ -13,13 +13,10 @@ with-requires c κs = search needs
 without-requires : tie.Need-without-requires
 without-requires c κs = search needs
 
-added-requires : tie.Need-added-requires
-added-requires c κs = search needs
-
 returns : tie.Need-returns
 unfolding onward
-returns c = let s = c .before .before .before .before in
-    same-level (c .before .before .without .ensures ∙ ap (left (s .args .level .free)) (c .before .before .before .with .ensures)) (c .added .ensures)
+returns c = let s = c .before .before in
+    λ seats h. same-level (c .without .ensures ∙ ap (left (s .args .level .free)) (c .before .with .ensures)) h
 
 pub onward-spec : {M : Type 1} → statement M
-onward-spec = tie.close (tie.spec with-requires without-requires added-requires returns)
+onward-spec = tie.close (tie.spec with-requires without-requires returns)

@@ -12,7 +12,7 @@ shared-requires : tie.Need-shared-requires
 shared-requires c κs = search needs
 
 returns : tie.Need-returns
-returns c = c .shared .ensures ∙ ap (λ r. common r (c .before .before .before .args .issuers)) (c .before .over .ensures)
+returns c = c .shared .ensures ∙ ap (λ r. common r (c .before .before .args .issuers)) (c .before .over .ensures)
 
 pub roots-over-spec : {M : Type 1} → statement M
 roots-over-spec = tie.close (tie.spec over-requires shared-requires returns)

@@ -127,6 +127,9 @@ element-copy-out-children c = low (c .before .before)
 children-requires : tie.Need-children-requires Inv-loop μ-loop
 children-requires c κs = search needs
 
+standing-by-requires : tie.Need-standing-by-requires Inv-loop μ-loop
+standing-by-requires c κs = search needs
+
 cast-roots-over : tie.Need-cast-roots-over Inv-loop μ-loop
 cast-roots-over c = search needs
 
@@ -134,7 +137,7 @@ mul-roots-over : tie.Need-mul-roots-over Inv-loop μ-loop
 mul-roots-over c = search needs
 
 element-copy-out-roots-over : tie.Need-element-copy-out-roots-over Inv-loop μ-loop
-element-copy-out-roots-over c = low (c .before .before .before .before)
+element-copy-out-roots-over c = low (c .before .before .before .before .before)
 
 roots-over-requires : tie.Need-roots-over-requires Inv-loop μ-loop
 roots-over-requires c κs = search needs
@@ -159,10 +162,10 @@ onward-requires c κs = search needs
 
 -- when the path's roots are known, what came before: the function's beginning, the choice of the place, the turn's beginning, the path by the place
 abbrev entry : tie.After-roots-over Inv-loop μ-loop → tie.Start Inv-loop μ-loop
-entry t = t .before .before .before .before .before .before .before .before .before .before .before .before .before .before
+entry t = t .before .before .before .before .before .before .before .before .before .before .before .before .before .before .before
 
 abbrev chosen : tie.After-roots-over Inv-loop μ-loop → tie.After-next-place Inv-loop μ-loop
-chosen t = t .before .before .before .before .before .before
+chosen t = t .before .before .before .before .before .before .before
 
 abbrev turn : tie.After-roots-over Inv-loop μ-loop → tie.At-loop Inv-loop μ-loop
 turn t = chosen t .before .before .before
@@ -183,12 +186,12 @@ time : (t : tie.After-roots-over Inv-loop μ-loop) → turn t .loop .steps < ent
 time t = omega (arith, chosen t .before .if3 .left)
 
 -- the row without the place
-fewer : (t : tie.After-roots-over Inv-loop μ-loop) → t .before .before .before .before .without .result ≡ left (turn t .loop .row) (joined 0 (chosen t .next-place .result))
-fewer t = t .before .before .before .before .without .ensures ∙ ap (left (turn t .loop .row)) (t .before .before .before .before .before .with .ensures)
+fewer : (t : tie.After-roots-over Inv-loop μ-loop) → t .before .before .before .before .before .without .result ≡ left (turn t .loop .row) (joined 0 (chosen t .next-place .result))
+fewer t = t .before .before .before .before .before .without .ensures ∙ ap (left (turn t .loop .row)) (t .before .before .before .before .before .before .with .ensures)
 
 -- the path's roots as a row
 over : (t : tie.After-roots-over Inv-loop μ-loop) → t .roots-over .result ≡ rootsOver (entry t .args .roots .now) (entry t .args .seats .now) (path t)
-over t = roots-are (turn t .loop .inv .stands) (chosen t .next-place .ensures) (some t) _ (t .roots-over .ensures)
+over t = roots-are (turn t .loop .inv .stands) (chosen t .next-place .ensures) (some t) _ (t .before .before .standing-by .ensures) (t .roots-over .ensures)
 
 -- it was on top
 on-top : (t : tie.After-roots-over Inv-loop μ-loop) → top (pops (graph t) (turn t .loop .steps) (began t)) ≡ path t ∷ []
@@ -203,9 +206,9 @@ moved : (c : tie.Joined4 Inv-loop μ-loop) → let t = c .before in
 moved c =
     let t = c .before in
     let S = turn t .loop .inv .stands in
-    let next = t .before .before .children .ensures in
+    let next = t .before .before .before .children .ensures in
     ⊎-elim
-    (λ w. (rw (w .2, w .3, w .4, w .5, w .6) (sank S (chosen t .next-place .ensures) (some t) _ (λ j. refl) next (fewer t) (w .1 .ensures) (omega (arith, w .0 .taken)) (search needs)), omega (arith, w .4)))
+    (λ w. (rw (w .2, w .3, w .4, w .5, w .6) (sank S (chosen t .next-place .ensures) (some t) _ (λ j. refl) next (fewer t) (w .1 .ensures _ (t .before .before .standing-by .ensures)) (omega (arith, w .0 .taken)) (search needs)), omega (arith, w .4)))
     (λ w. (rw (w .1, w .2, w .3, w .4, w .5) (stayed S (chosen t .next-place .ensures) (some t) _ (λ j. refl) next (fewer t) (w .0 .left)), omega (arith, w .3)))
     (c .if4 .came)
 
@@ -267,6 +270,7 @@ walk-spec =
     mul-children
     element-copy-out-children
     children-requires
+    standing-by-requires
     cast-roots-over
     mul-roots-over
     element-copy-out-roots-over

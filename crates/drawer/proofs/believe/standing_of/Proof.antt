@@ -1,12 +1,12 @@
--- `standing_before` ends, and reads the path within its length.
+-- `standing_of` ends, and reads the path within its length.
 use borrow.Author.Needs.{needs}
 use Prim.Native.Nat.{_≤_, _-_}
 use lib.ListN.{length}
-use Rattle.drawer.proofs.believe.standing_before.Statement.{statement}
-use Rattle.drawer.proofs.believe.standing_before.Tie as tie
+use Rattle.drawer.proofs.believe.standing_of.Statement.{statement}
+use Rattle.drawer.proofs.believe.standing_of.Tie as tie
 
 abbrev Inv-loop : tie.InvT-loop
-Inv-loop path seats standing₀ next₀ standing next = 1 ≤ next
+Inv-loop path seats standing₀ next₀ standing next = next ≤ length path
 
 abbrev μ-loop : tie.MeasureT-loop
 μ-loop path seats standing₀ next₀ standing next = length path - next
@@ -16,9 +16,6 @@ begun-requires c κs = search needs
 
 loop-holds : tie.Need-loop-holds Inv-loop μ-loop
 loop-holds c = search needs
-
-sub-added : tie.Need-sub-added Inv-loop μ-loop
-sub-added c = search needs
 
 shared-slice-read-added : tie.Need-shared-slice-read-added Inv-loop μ-loop
 shared-slice-read-added c = search needs
@@ -38,15 +35,14 @@ loop-again c = search needs
 returns : tie.Need-returns Inv-loop μ-loop
 returns c = search needs
 
-pub standing-before-spec : {M : Type 1} → statement M
-standing-before-spec =
+pub standing-of-spec : {M : Type 1} → statement M
+standing-of-spec =
     tie.close
     (tie.spec
     Inv-loop
     μ-loop
     begun-requires
     loop-holds
-    sub-added
     shared-slice-read-added
     added-requires
     add-next
