@@ -3,11 +3,20 @@
 use crate::draft::{Cert, Draft};
 use crate::plans::{plan, Plan, Who};
 use crate::random::Random;
-use crate::wording::{host, key_of, name_of, pattern, serial_of, varied, Dress};
+use crate::wording::{
+    estranged, host, key_of, name_of, pattern, renewed, serial_of, varied, Dress,
+};
 
 pub fn house(random: &mut Random) -> Draft {
     let plan = plan(random);
     let mut draft = dressed(random, &plan);
+    renew(random, &plan, &mut draft);
+    if random.chance(50) {
+        estrange(random, &plan, &mut draft);
+    }
+    for _ in 0..random.below(3) {
+        bind(random, &plan, &mut draft);
+    }
     make_alike(random, &mut draft);
     if random.chance(35) {
         for _ in 0..random.within(1..=3) {
@@ -129,6 +138,62 @@ fn name_leaf(random: &mut Random, leaf: &mut Cert, asked: &[u8], dress: Dress) {
         let place = random.within(0..=leaf.dns_names.len());
         leaf.dns_names.insert(place, pattern(random, asked));
     }
+}
+
+/// Names the chain's self-issued certificates, the highest first, in all the ways in which they can be or seem so. Some have a new key.
+fn renew(random: &mut Random, plan: &Plan, draft: &mut Draft) {
+    for pair in plan.chain.windows(2).rev() {
+        let (below, place) = (pair[0], pair[1]);
+        if !plan.bundle[place].self_issued() {
+            continue;
+        }
+        let cert = &mut draft.bundle[place];
+        (cert.issuer, cert.subject) = renewed(random, &cert.issuer);
+        let named = varied(random, &cert.subject);
+        let new_key = random.chance(60).then(|| random.bytes(20..=20));
+        cert.subject_key_id = new_key.or(cert.subject_key_id.take());
+        let key = cert.subject_key_id.clone();
+        let subject = &mut draft.bundle[below];
+        subject.issuer = named;
+        subject.authority_key_id = key.filter(|_| random.chance(80));
+    }
+}
+
+/// Makes some self-issued certificates such that are not, though all issue whom they did: every name gets an RDN for each of them. There
+/// are at most eight, so that no name has too many.
+fn estrange(random: &mut Random, plan: &Plan, draft: &mut Draft) {
+    let roots = draft.roots.len();
+    let own = (0..plan.bundle.len()).filter(|place| plan.bundle[*place].self_issued());
+    for place in own.take(8) {
+        if random.chance(50) {
+            for at in 0..draft.certs() {
+                let [issuer, subject] = estranged(random, at == roots + place);
+                draft.cert(at).issuer.push(issuer);
+                draft.cert(at).subject.push(subject);
+            }
+        }
+    }
+}
+
+/// Gives a certificate of the chain, or its root, a path length at the edge of what is below it, with the self-issued ones and without.
+fn bind(random: &mut Random, plan: &Plan, draft: &mut Draft) {
+    let Some(root) = plan.root else { return };
+    let depth = random.within(1..=plan.chain.len());
+    let counted = counted(plan, depth);
+    let edges = [counted, counted, counted + 1, counted.max(1) - 1, depth - 1];
+    let cert = match plan.chain.get(depth) {
+        Some(place) => &mut draft.bundle[*place],
+        None => &mut draft.roots[root],
+    };
+    (cert.ca, cert.path_length) = (true, Some(random.pick(&edges) as u8));
+}
+
+/// How many of the chain's certificates below a depth path lengths count: neither the leaf nor the self-issued ones.
+fn counted(plan: &Plan, depth: usize) -> usize {
+    let between = plan.chain[..depth].iter().skip(1);
+    between
+        .filter(|place| !plan.bundle[**place].self_issued())
+        .count()
 }
 
 /// Two places with the same record and the same verdicts stay two places.

@@ -9,6 +9,13 @@ pub struct Who {
     pub issuer: usize,
 }
 
+impl Who {
+    /// Issued by its own house, as a certificate that renews another one.
+    pub fn self_issued(self) -> bool {
+        self.subject == self.issuer
+    }
+}
+
 pub struct Plan {
     pub roots: Vec<Who>,
     pub bundle: Vec<Who>,
@@ -25,7 +32,8 @@ pub struct Plan {
 
 pub fn plan(random: &mut Random) -> Plan {
     match random.below(100) {
-        0..=57 => chain(random),
+        0..=42 => chain(random),
+        43..=57 => renewals(random),
         58..=71 => web(random),
         72..=88 => complete(random),
         _ => layers(random),
@@ -64,18 +72,35 @@ fn chain(random: &mut Random) -> Plan {
     let n = bundle_size(random);
     let part = random.within(1..=n);
     let length = random.pick(&[n, part, part]);
-    let others = shuffled(random, (1..n).collect());
-    let chain: Vec<usize> = [0].into_iter().chain(others).take(length).collect();
-    let mut bundle = strays(random, n, length);
-    for (j, place) in chain.iter().enumerate() {
-        bundle[*place] = Who {
-            subject: j,
-            issuer: j + 1,
-        };
+    let links = links(random, length, 20);
+    linked(random, n, links)
+}
+
+/// The same with few others, and most between leaf and root self-issued. Few verdicts beside the chain's hold, so that there is seldom a way
+/// round these.
+fn renewals(random: &mut Random) -> Plan {
+    let length = random.within(3..=7);
+    let n = length + random.below(3);
+    let links = links(random, length, 60);
+    Plan {
+        hit: random.pick(&[0, 0, 60]),
+        ..linked(random, n, links)
     }
-    let mut roots = tops(random, length);
+}
+
+/// A chain of these certificates, the leaf first, among n, and roots of which one issued the last.
+fn linked(random: &mut Random, n: usize, links: Vec<Who>) -> Plan {
+    let others = shuffled(random, (1..n).collect());
+    let places = [0].into_iter().chain(others);
+    let chain: Vec<usize> = places.take(links.len()).collect();
+    let highest = links[links.len() - 1].issuer;
+    let mut bundle = strays(random, n, highest);
+    for (place, link) in chain.iter().zip(links) {
+        bundle[*place] = link;
+    }
+    let mut roots = tops(random, highest);
     let root = random.below(roots.len());
-    roots[root] = top(length);
+    roots[root] = top(highest);
     Plan {
         roots,
         bundle,
@@ -86,6 +111,19 @@ fn chain(random: &mut Random) -> Plan {
         noise: random.pick(&[0, 5, 30]),
         root_path_length: None,
     }
+}
+
+/// A chain's certificates from the leaf up, each issued by the next house; above the leaf so many in a hundred by their own.
+fn links(random: &mut Random, length: usize, renewals: usize) -> Vec<Who> {
+    let mut subject = 0;
+    let mut link = |_| {
+        let renews = subject > 0 && random.chance(renewals);
+        let issuer = if renews { subject } else { subject + 1 };
+        let link = Who { subject, issuer };
+        subject = issuer;
+        link
+    };
+    (0..length).map(&mut link).collect()
 }
 
 /// n certificates beside a chain of so many houses: some repeat or cross it, the others have nothing to do with it.
@@ -181,7 +219,7 @@ fn complete(random: &mut Random) -> Plan {
     }
 }
 
-/// Rows of alike certificates, each row issued by the whole row above it; the roots stand above the last row.
+/// Rows of alike certificates, each row issued by the whole row above it, and some by their own row; the roots stand above the last row.
 fn layers(random: &mut Random) -> Plan {
     let mut bundle = vec![Who {
         subject: 0,
@@ -190,14 +228,14 @@ fn layers(random: &mut Random) -> Plan {
     let deep = random.within(1..=6);
     for layer in 1..=deep {
         for _ in 0..random.within(1..=3) {
-            bundle.push(Who {
-                subject: layer,
-                issuer: layer + 1,
-            });
+            let issuer = if random.chance(20) { layer } else { layer + 1 };
+            let subject = layer;
+            bundle.push(Who { subject, issuer });
         }
     }
     bundle.truncate(16);
-    let top = bundle[bundle.len() - 1].issuer;
+    let issuers = bundle.iter().map(|who| who.issuer);
+    let top = issuers.fold(0, usize::max);
     let order = shuffled(random, (1..bundle.len()).collect());
     let rest: Vec<Who> = order.iter().map(|place| bundle[*place]).collect();
     bundle.truncate(1);

@@ -92,10 +92,43 @@ pub fn varied(random: &mut Random, name: &Name) -> Name {
     if random.chance(2) {
         repeat(random, &mut name);
     }
-    if !name.is_empty() && random.chance(1) {
+    if random.chance(1) {
         miss(random, &mut name);
     }
     name
+}
+
+/// The issuer name and the subject name of a certificate that its own house issued: the same bytes, the same by normal form only, by another
+/// order of attributes only or in this direction only; or not the same, by the direction or by a near miss.
+pub fn renewed(random: &mut Random, name: &Name) -> (Name, Name) {
+    let (mut issuer, mut subject) = (name.clone(), name.clone());
+    match random.below(8) {
+        0 => {}
+        1 => {
+            for (_, value) in subject.iter_mut().flatten() {
+                *value = respelt(random, value);
+            }
+        }
+        2 => subject.iter_mut().for_each(|rdn| rdn.reverse()),
+        3 | 4 => repeat(random, &mut issuer),
+        5 | 6 => repeat(random, &mut subject),
+        _ => miss(random, &mut subject),
+    }
+    (issuer, subject)
+}
+
+/// An RDN for the issuer name and one for the subject name of a certificate. Every issuer's is the same as every subject's but for one's own,
+/// whose issuer name then differs from its subject name, in this direction only or in both.
+pub fn estranged(random: &mut Random, own: bool) -> [Vec<Attribute>; 2] {
+    let [p, q] = ["Old Matrix", "New Matrix"].map(|value| attribute(UNIT, value));
+    let twice = |one: &Attribute| vec![one.clone(), one.clone()];
+    let mut both = vec![p.clone(), q.clone()];
+    random.shuffle(&mut both);
+    match own {
+        true if random.chance(50) => [both, twice(&q)],
+        true => [twice(&p), twice(&q)],
+        false => [twice(&q), both],
+    }
 }
 
 /// Puts an attribute of each RDN of several in any of their places.
@@ -141,8 +174,11 @@ fn spaces(random: &mut Random, least: usize) -> Vec<u8> {
     vec![b' '; random.within(least..=least + 2)]
 }
 
-/// Makes a name that is close to the given one and not the same.
+/// Makes a name that is close to the given one and not the same; to that of no RDNs none is close.
 fn miss(random: &mut Random, name: &mut Name) {
+    if name.is_empty() {
+        return;
+    }
     let rdn = random.below(name.len());
     let (oid, value) = &mut name[rdn][0];
     match random.below(13) {

@@ -1,4 +1,4 @@
-//! Who issued whom: names and key ids that fit, and a verdict of 1.
+//! Who issued whom: names and key ids that fit, and a verdict of 1. And who is self-issued: by the names alone.
 
 use crate::card::{Card, Record};
 use crate::names::same_dn;
@@ -38,6 +38,11 @@ fn issuers_of(
 /// The subject's issuer name comes first.
 pub fn likely_issued(issuer: &Record, subject: &Record) -> bool {
     same_dn(&subject.issuer, &issuer.subject) && check_auth_key_id(issuer, subject)
+}
+
+/// Issued under its own name, whoever's key signed it. As above, the issuer name comes first.
+pub fn self_issued(cert: &Record) -> bool {
+    same_dn(&cert.issuer, &cert.subject)
 }
 
 /// A part of the subject's authority key id that is missing asks for nothing, nor does a key id that the issuer lacks.

@@ -1,6 +1,7 @@
 //! The policy on a chain, the leaf first and the root last: one function for each rule, in the paper's order.
 
 use crate::card::{flag, usage, Record, Task};
+use crate::issuing::self_issued;
 use crate::text::match_name;
 
 pub fn satisfied(chain: &[&Record], task: &Task) -> bool {
@@ -10,7 +11,7 @@ pub fn satisfied(chain: &[&Record], task: &Task) -> bool {
         && below_root.iter().all(|cert| well_formed(cert))
         && chain.iter().all(|cert| !cert.has(flag::UNHANDLED_CRITICAL))
         && above.iter().all(|cert| may_issue(cert))
-        && (0..chain.len()).all(|j| within_path_length(chain[j], j))
+        && (0..chain.len()).all(|j| within_path_length(chain, j))
         && serves(leaf)
         && answers_to(leaf, task.host)
 }
@@ -27,10 +28,11 @@ fn may_issue(cert: &Record) -> bool {
     cert.has(flag::CA) && (!cert.has(flag::KEY_USAGE) || cert.has(flag::MAY_SIGN))
 }
 
-/// Certificate `j` of the chain has `j - 1` others between itself and the leaf.
-fn within_path_length(cert: &Record, j: usize) -> bool {
-    match cert.path_length {
-        Some(p) => j <= usize::from(p) + 1,
+/// A path length counts the certificates between its own and the leaf that are not self-issued.
+fn within_path_length(chain: &[&Record], j: usize) -> bool {
+    let between = chain[..j].iter().skip(1);
+    match chain[j].path_length {
+        Some(p) => between.filter(|cert| !self_issued(cert)).count() <= usize::from(p),
         None => true,
     }
 }

@@ -1,7 +1,9 @@
-//! The paper's worked cases: "Cards pulled from the drawer".
+//! The paper's worked cases: "Cards pulled from the drawer". And path lengths, with self-issued certificates and without.
 
-use crate::card::Attribute;
+use crate::card::{flag, Attribute, Name, Record, Task};
+use crate::issuing::self_issued;
 use crate::names::{same_dn, same_rdn};
+use crate::policy;
 use crate::room::{ENOUGH, SLOT, SLOTS};
 use crate::text::{match_name, normalise};
 use crate::{paused, search, terminal};
@@ -73,6 +75,114 @@ fn names() {
     assert!(!same_dn(&[ab(), ba()], &[ba(), aa()]));
     assert!(!same_dn(&[ab()], &[ab(), ba()]));
     assert!(same_dn(&[], &[]));
+}
+
+/// A name of one RDN, of these values.
+fn name(values: &[&'static str]) -> Name<'static> {
+    let attribute = |value: &&'static str| Attribute {
+        oid: b"a",
+        value: value.as_bytes(),
+    };
+    vec![values.iter().map(attribute).collect()]
+}
+
+/// An authority with no path length.
+fn authority(issuer: &[&'static str], subject: &[&'static str]) -> Record<'static> {
+    Record {
+        version: 2,
+        flags: flag::CA,
+        not_before: 0,
+        not_after: 0,
+        serial: b"1",
+        outer_algorithm: b"*",
+        inner_algorithm: b"*",
+        issuer: name(issuer),
+        subject: name(subject),
+        authority_key_id: None,
+        authority_serial: None,
+        subject_key_id: None,
+        path_length: None,
+        usages: vec![],
+        dns_names: vec![],
+    }
+}
+
+/// One that another authority issued, and one that is self-issued.
+fn other() -> Record<'static> {
+    authority(&["a"], &["b"])
+}
+
+fn own() -> Record<'static> {
+    authority(&["a"], &["a"])
+}
+
+fn limit(path_length: u8, cert: Record) -> Record {
+    Record {
+        path_length: Some(path_length),
+        ..cert
+    }
+}
+
+fn holds<const LENGTH: usize>(chain: [Record; LENGTH]) -> bool {
+    let task = Task {
+        now: 0,
+        budget: 0,
+        host: b"",
+    };
+    policy::satisfied(&chain.each_ref(), &task)
+}
+
+#[test]
+fn path_lengths() {
+    assert!(holds([other(), other(), limit(1, other()), own()]));
+    assert!(!holds([other(), other(), limit(0, other()), own()]));
+    assert!(holds([other(), own(), limit(0, other()), own()]));
+    assert!(holds([other(), own(), own(), limit(0, other()), own()]));
+    assert!(holds([other(), own(), other(), limit(1, other()), own()]));
+    assert!(!holds([other(), own(), other(), limit(0, other()), own()]));
+}
+
+#[test]
+fn path_lengths_of_self_issued() {
+    assert!(holds([other(), limit(0, own()), own()]));
+    assert!(holds([other(), own(), limit(0, own()), own()]));
+    assert!(holds([other(), other(), limit(1, own()), own()]));
+    assert!(!holds([other(), other(), limit(0, own()), own()]));
+    assert!(!holds([other(), other(), own(), limit(0, own()), own()]));
+}
+
+#[test]
+fn path_lengths_of_roots() {
+    assert!(holds([own(), limit(0, own())]));
+    assert!(holds([other(), limit(0, other())]));
+    assert!(holds([other(), own(), limit(0, own())]));
+    assert!(holds([other(), own(), limit(0, other())]));
+    assert!(!holds([other(), other(), limit(0, own())]));
+    assert!(!holds([other(), other(), limit(0, other())]));
+    assert!(holds([other(), other(), own(), limit(1, own())]));
+    assert!(!holds([other(), other(), other(), limit(1, own())]));
+}
+
+#[test]
+fn self_issued_names() {
+    let same = |issuer, subject| self_issued(&authority(issuer, subject));
+    assert!(same(&["Bembo Roman"], &["Bembo Roman"]));
+    assert!(same(&["Bembo Roman"], &[" bembo   ROMAN"]));
+    assert!(!same(&["Bembo Roman"], &["Bembo\tRoman"]));
+    assert!(same(&["a", "b"], &["b", "a"]));
+    assert!(same(&["a", "a"], &["a", "b"]));
+    assert!(!same(&["a", "b"], &["a", "a"]));
+    assert!(!same(&["a"], &["a", "a"]));
+}
+
+#[test]
+fn self_issued_with_another_key() {
+    let renewed = Record {
+        authority_key_id: Some(b"old"),
+        subject_key_id: Some(b"new"),
+        ..own()
+    };
+    assert!(holds([other(), renewed, limit(0, other()), own()]));
 }
 
 #[test]
