@@ -8,11 +8,11 @@ use crate::answer::Answer;
 use crate::question::Question;
 use crate::seats::Seats;
 
-fn at<const CHECKED: bool, T: Copy>(list: &[T; 16], index: usize) -> T {
+fn at<const CHECKED: bool, T: Copy, const LENGTH: usize>(list: &[T; LENGTH], index: usize) -> T {
     if CHECKED {
         return list[index];
     }
-    // SAFETY: the walk is the library's, of which it is proved that every index is below 16
+    // SAFETY: the walk is the library's, of which it is proved that every index is within its array
     unsafe { *list.get_unchecked(index) }
 }
 
@@ -25,42 +25,36 @@ fn put<const CHECKED: bool, T>(list: &mut [T; 16], index: usize, value: T) {
     unsafe { *list.get_unchecked_mut(index) = value }
 }
 
-/// How a path stands that is to go on.
+/// How a path stands: how many certificates that count, the leaf among them, are below whatever comes next; more than any path can have if
+/// one of its places may not stand where it does.
 #[derive(Clone, Copy)]
 struct Standing {
-    /// The places that may come next.
-    places: u64,
-    /// The roots that may then stand above.
-    roots: u64,
-    /// How many certificates are then between those and the leaf.
     below: usize,
 }
 
 impl Standing {
-    fn begun(seats: &Seats) -> Standing {
-        Standing {
-            places: seats.places[0],
-            roots: seats.roots[0],
-            below: 0,
+    const BEGUN: Standing = Standing { below: 0 };
+
+    /// The roots that may stand above the path.
+    fn over<const CHECKED: bool>(self, seats: &Seats) -> u64 {
+        if self.below < Seats::MOST {
+            return at::<CHECKED, _, _>(&seats.rows, Seats::ROOTS + self.below);
         }
+        0
     }
 
-    /// The roots that may stand above where it goes on by a place.
-    fn over(self, place: usize) -> u64 {
-        if self.places >> place & 1 != 0 {
-            self.roots
-        } else {
-            0
-        }
-    }
-
+    /// How a path stands that goes on by a place.
     fn added<const CHECKED: bool>(self, seats: &Seats, place: usize) -> Standing {
-        let below = self.below + 1;
-        Standing {
-            places: at::<CHECKED, _>(&seats.places, below),
-            roots: self.over(place) & at::<CHECKED, _>(&seats.roots, below),
-            below,
+        let below = self.below;
+        if below < Seats::MOST {
+            if at::<CHECKED, _, _>(&seats.rows, below) >> place & 1 != 0 {
+                return Standing { below: below + 1 };
+            }
+            if at::<CHECKED, _, _>(&seats.rows, Seats::OTHERS + below) >> place & 1 != 0 {
+                return Standing { below };
+            }
         }
+        Standing { below: Seats::MOST }
     }
 }
 
@@ -72,13 +66,23 @@ struct Level {
     standing: Standing,
 }
 
+impl Level {
+    /// The level after this one, where the path goes on by a place.
+    fn onward<const CHECKED: bool>(self, seats: &Seats, place: usize) -> Level {
+        Level {
+            free: self.free & !(1 << place),
+            standing: self.standing.added::<CHECKED>(seats, place),
+        }
+    }
+}
+
 pub fn walk<const CHECKED: bool>(question: &Question) -> Answer {
     let seats = Seats::of(question);
     let issuers = question.issuers.map(u64::from);
     let roots = question.roots.map(u64::from);
     let mut here = Level {
         free: (1 << question.size) - 1,
-        standing: Standing::begun(&seats),
+        standing: Standing::BEGUN,
     };
     let mut row: u64 = 1;
     let mut ahead = [0; 16];
@@ -92,8 +96,8 @@ pub fn walk<const CHECKED: bool>(question: &Question) -> Answer {
                 return Answer::without_path(1, steps);
             }
             depth -= 1;
-            row = at::<CHECKED, _>(&ahead, depth);
-            here = at::<CHECKED, _>(&levels, depth);
+            row = at::<CHECKED, _, _>(&ahead, depth);
+            here = at::<CHECKED, _, _>(&levels, depth);
             continue;
         }
         if steps == question.budget {
@@ -103,15 +107,15 @@ pub fn walk<const CHECKED: bool>(question: &Question) -> Answer {
         let place = row.ilog2() as usize;
         put::<CHECKED, _>(&mut path, depth, place as u8);
         row ^= 1 << place;
-        let free = here.free & !(1 << place);
-        let next = free & at::<CHECKED, _>(&issuers, place);
-        let tops = here.standing.over(place) & at::<CHECKED, _>(&roots, place);
+        let after = here.onward::<CHECKED>(&seats, place);
+        let next = after.free & at::<CHECKED, _, _>(&issuers, place);
+        let above = after.standing.over::<CHECKED>(&seats);
+        let tops = above & at::<CHECKED, _, _>(&roots, place);
         let length = depth + 1;
         if next != 0 {
             put::<CHECKED, _>(&mut ahead, depth, row);
             put::<CHECKED, _>(&mut levels, depth, here);
-            let standing = here.standing.added::<CHECKED>(&seats, place);
-            here = Level { free, standing };
+            here = after;
             row = next;
             depth = length;
         }

@@ -174,18 +174,39 @@ pub fn complete(certificates: usize, budget: u64) -> Vec<u8> {
     })
 }
 
-/// The same with 32 roots that issued every certificate but the first and let none stand below them: each path is walked, each root tried.
+/// The issuer name and the subject name of one of so many certificates that all issue each other, some of which are not self-issued and have
+/// an RDN of their own for it. An RDN of two attributes is the same as another where both are among the other's: (q, q) is the same as (p, q)
+/// and as (q, q), and (p, p) as (p, q) but not as (q, q). So each issuer name is the same as each subject name that has another own RDN or none.
+fn mutual_names(certificates: usize, own: Option<usize>) -> (Name, Name) {
+    let name = |mine: [&str; 2], theirs: [&str; 2]| -> Name {
+        let pair = |rdn| if own == Some(rdn) { mine } else { theirs };
+        let rdn = |rdn| pair(rdn).map(|value| (COMMON, value.into())).into();
+        (0..certificates).map(rdn).collect()
+    };
+    (name(["p", "p"], ["q", "q"]), name(["q", "q"], ["p", "q"]))
+}
+
+/// As many that all issue each other, every second one self-issued, and 32 roots that issued the others but the first and let none that counts
+/// stand below them. Each path is walked, and for each that ends at one of theirs the roots are tried in vain, since that one counts.
 pub fn barred(certificates: usize, budget: u64) -> Vec<u8> {
     const ROOTS: usize = 32;
-    let each = || authority(between_name(0), 100, between_name(0), 100);
+    let counts = |place: usize| place % 2 == 0;
+    let each = |own| {
+        let (issuer, subject) = mutual_names(certificates, own);
+        authority(subject, 100, issuer, 100)
+    };
     let root = || Certificate {
         path_length: Some(0),
-        ..each()
+        ..each(None)
     };
     let card = Card {
         roots: (0..ROOTS).map(|_| root()).collect(),
-        bundle: (0..certificates).map(|_| each()).collect(),
-        signed: Box::new(|issuer, subject| issuer >= ROOTS || subject > 0),
+        bundle: (0..certificates)
+            .map(|place| each(counts(place).then_some(place)))
+            .collect(),
+        signed: Box::new(move |issuer, subject| {
+            issuer >= ROOTS || (subject > 0 && counts(subject))
+        }),
         now: NOW,
         budget,
         host: String::new(),
@@ -229,6 +250,33 @@ pub fn ordinary(wanted: Ordinary) -> Card {
         ));
     }
     signed_by_keys(wanted, bundle)
+}
+
+/// A leaf, the two certificates by which its issuer twice renewed its key under its own name, that issuer's first one, and a root. Each path
+/// length is the least that lets this chain stand, since the two are not counted.
+pub fn renewed(roots: usize) -> Card {
+    let wanted = Ordinary {
+        certificates: 4,
+        roots,
+        host: HOST,
+    };
+    let top = roots / 2;
+    let issuer = |key, above: Name, above_key| Certificate {
+        path_length: Some(0),
+        ..authority(between_name(1), key, above, above_key)
+    };
+    let key = between_key;
+    let mut card = signed_by_keys(
+        wanted,
+        vec![
+            leaf(between_name(1), key(3)),
+            issuer(key(3), between_name(1), key(2)),
+            issuer(key(2), between_name(1), key(1)),
+            issuer(key(1), root_name(top), top),
+        ],
+    );
+    card.roots[top].path_length = Some(1);
+    card
 }
 
 /// A signature holds where the issuer has the key that the subject names.

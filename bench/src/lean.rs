@@ -1,9 +1,39 @@
-//! The leanest walk by depths in Rust: rows of 32 bits, which hold the limits as they are, and the depth for the number of certificates
-//! below. A rule that counts otherwise would not find its number here. The lent room is left as it is.
+//! The leanest walk by depths in Rust: rows of 32 bits, and how a path stands as a bit, which a step moves by what its place says. No number is
+//! looked up for it. The lent room is left as it is.
 
 use crate::answer::Answer;
-use crate::question::Question;
-use crate::seats::Seats;
+use crate::question::{up_to, Question};
+
+/// What a step asks of its place, each kind by itself, since a number is found faster than a struct of three.
+struct Places {
+    /// As wide as the rows that they meet: those of 16 bits take longer to load.
+    issuers: [u32; 16],
+    /// The numbers of certificates that count with which a place stands, as bits.
+    standing: [u32; 16],
+    /// The numbers, those places counted, that some root lets stand below it.
+    rooted: [u32; 16],
+    counted: u32,
+}
+
+impl Places {
+    fn of(question: &Question) -> Places {
+        Places {
+            issuers: question.issuers.map(u32::from),
+            standing: question.standing(),
+            rooted: question.roots.map(|roots| rooted(question, roots)),
+            counted: question.counted.into(),
+        }
+    }
+}
+
+fn rooted(question: &Question, mut roots: u32) -> u32 {
+    let mut numbers = 0;
+    while roots != 0 {
+        numbers |= up_to(question.root_limits[roots.trailing_zeros() as usize]);
+        roots &= roots - 1;
+    }
+    numbers
+}
 
 /// Where a walk stands at one depth.
 #[derive(Clone, Copy)]
@@ -12,17 +42,17 @@ struct Rows {
     ahead: u32,
     /// The places that the path before leaves free.
     free: u32,
-    /// The roots that may stand above a path that ends here: none where a place before may not stand where it does.
-    standing: u32,
+    /// The bit of how many places of the path before count, the leaf aside: none if one may not stand where it does.
+    counted: u32,
 }
 
 impl Rows {
     /// At the first depth only the leaf is to be taken.
-    fn first(size: usize, standing: u32) -> Rows {
+    fn first(size: usize) -> Rows {
         Rows {
             ahead: 1,
             free: (1 << size) - 1,
-            standing,
+            counted: 1,
         }
     }
 
@@ -33,52 +63,50 @@ impl Rows {
         place as usize
     }
 
-    /// The rows past a place, by the places that issued it and those that may stand where it does.
-    fn past(self, place: usize, issuers: u32, seats: u32) -> Rows {
-        let taken = 1 << place;
-        let free = self.free ^ taken;
+    /// The rows past a place.
+    fn past(self, place: usize, places: &Places) -> Rows {
+        let free = self.free ^ 1 << place;
+        let counts = places.counted >> place & 1;
         Rows {
-            ahead: free & issuers,
+            ahead: free & places.issuers[place],
             free,
-            standing: if seats & taken != 0 { self.standing } else { 0 },
+            counted: (self.counted & places.standing[place]) << counts,
         }
     }
 }
 
-/// The rows of the depths before, each kind by itself, since a number is found faster than a struct of three.
+/// The rows of the depths before, likewise each kind by itself.
 struct Depths {
     ahead: [u32; 16],
     free: [u32; 16],
-    standing: [u32; 16],
+    counted: [u32; 16],
 }
 
 impl Depths {
     const NONE: Depths = Depths {
         ahead: [0; 16],
         free: [0; 16],
-        standing: [0; 16],
+        counted: [0; 16],
     };
 
     fn keep(&mut self, depth: usize, rows: Rows) {
         self.ahead[depth] = rows.ahead;
         self.free[depth] = rows.free;
-        self.standing[depth] = rows.standing;
+        self.counted[depth] = rows.counted;
     }
 
     fn kept(&self, depth: usize) -> Rows {
         Rows {
             ahead: self.ahead[depth],
             free: self.free[depth],
-            standing: self.standing[depth],
+            counted: self.counted[depth],
         }
     }
 }
 
 pub fn walk(question: &Question) -> Answer {
-    let seats = Seats::of(question);
-    // as wide as the rows that they meet: those of 16 bits take longer to load
-    let issuers = question.issuers.map(u32::from);
-    let mut rows = Rows::first(question.size, seats.roots[0] as u32);
+    let places = Places::of(question);
+    let mut rows = Rows::first(question.size);
     let mut before = Depths::NONE;
     let mut path = [0; 16];
     let mut depth = 0;
@@ -98,19 +126,18 @@ pub fn walk(question: &Question) -> Answer {
         steps += 1;
         let place = rows.take();
         path[depth] = place as u8;
-        let mut next = rows.past(place, issuers[place], seats.places[depth] as u32);
-        let roots = next.standing & question.roots[place];
+        let next = rows.past(place, &places);
+        let rooted = next.counted & places.rooted[place];
         let length = depth + 1;
         // deeper first, as in the library: with the roots looked at first a step takes nearly twice the time on x86-64
         if next.ahead != 0 {
             before.keep(depth, rows);
             depth = length;
-            next.standing &= seats.roots[depth] as u32;
             rows = next;
         }
-        if roots != 0 {
-            let root = roots.trailing_zeros() as u8;
-            return Answer::accepted(steps, root, &path[..length]);
+        if rooted != 0 {
+            let root = question.lowest_root(place, rooted.trailing_zeros() as u8);
+            return Answer::accepted(steps, root.unwrap_or(0), &path[..length]);
         }
     }
 }

@@ -1,4 +1,4 @@
-//! Packed Rust: a path in one number, four bits a place, with the mask of its places and whether it may stand kept beside it.
+//! Packed Rust: a path in one number, four bits a place; beside it the mask of its places, and a bit for how many of them count.
 
 use crate::answer::Answer;
 use crate::question::Question;
@@ -9,7 +9,8 @@ struct Path {
     used: u16,
     length: u8,
     last: u8,
-    stands: bool,
+    /// The bit of how many places count, the leaf aside: none if one may not stand where it does.
+    counted: u32,
 }
 
 impl Path {
@@ -18,29 +19,26 @@ impl Path {
         used: 1,
         length: 1,
         last: 0,
-        stands: true,
+        counted: 1,
     };
 
-    fn with(self, place: u8, question: &Question) -> Path {
+    /// The path that goes on by a place, which stands with these numbers.
+    fn with(self, place: u8, numbers: u32, question: &Question) -> Path {
         Path {
             places: self.places | u64::from(place) << (4 * self.length),
             used: self.used | 1 << place,
             length: self.length + 1,
             last: place,
-            stands: self.stands && question.stands(place, usize::from(self.length) - 1),
+            counted: (self.counted & numbers) << question.counts(place),
         }
     }
 
     fn root(self, question: &Question) -> Option<u8> {
-        let mut roots = question.roots[usize::from(self.last)];
-        while self.stands && roots != 0 {
-            let root = roots.trailing_zeros() as u8;
-            if self.length - 1 <= question.root_limits[usize::from(root)] {
-                return Some(root);
-            }
-            roots &= roots - 1;
+        let last = usize::from(self.last);
+        if question.roots[last] == 0 || self.counted == 0 {
+            return None;
         }
-        None
+        question.lowest_root(last, self.counted.trailing_zeros() as u8)
     }
 
     fn accepted(self, steps: u64, root: u8) -> Answer {
@@ -53,6 +51,7 @@ impl Path {
 }
 
 pub fn walk(question: &Question) -> Answer {
+    let standing = question.standing();
     let mut stack = [Path::LEAF; 106];
     let mut waiting = 1;
     let mut steps = 0;
@@ -68,7 +67,8 @@ pub fn walk(question: &Question) -> Answer {
         }
         let mut next = question.issuers[usize::from(path.last)] & !path.used;
         while next != 0 {
-            stack[waiting] = path.with(next.trailing_zeros() as u8, question);
+            let place = next.trailing_zeros() as u8;
+            stack[waiting] = path.with(place, standing[usize::from(place)], question);
             waiting += 1;
             next &= next - 1;
         }

@@ -11,7 +11,9 @@ pub struct Question {
     pub roots: [u32; 16],
     /// The places that may stand between leaf and root, where their path length allows.
     pub between: u16,
-    /// How many certificates each place, and each root, lets stand between it and the leaf.
+    /// Of those the ones that path lengths count: they are not self-issued. The leaf never counts.
+    pub counted: u16,
+    /// How many certificates that count each place, and each root, lets stand between it and the leaf.
     pub place_limits: [u8; 16],
     pub root_limits: [u8; 32],
 }
@@ -25,6 +27,7 @@ impl Question {
             issuers: [0; 16],
             roots: [0; 16],
             between: 0,
+            counted: 0,
             place_limits: [0; 16],
             root_limits: [0; 32],
         };
@@ -49,6 +52,8 @@ impl Question {
             self.place_limits[place] = cert.path_length;
             let sound = in_date(cert, card.now) && well_formed(cert) && authority(cert);
             self.between |= u16::from(sound) << place;
+            let counts = place > 0 && sound && !same_name(cert.issuer, cert.subject);
+            self.counted |= u16::from(counts) << place;
         }
         for (place, root) in card.roots.all().iter().enumerate() {
             self.root_limits[place] = root.path_length;
@@ -58,14 +63,20 @@ impl Question {
     /// The lowest root by which a path qualifies.
     #[inline]
     pub fn root_above(&self, path: &[u8]) -> Option<u8> {
-        let between = path.len() - 1;
-        let mut roots = self.roots[usize::from(path[between])];
-        if roots == 0 || !self.all_stand(path) {
+        let last = usize::from(path[path.len() - 1]);
+        if self.roots[last] == 0 {
             return None;
         }
+        self.lowest_root(last, self.counted_after_leaf(path)?)
+    }
+
+    /// The lowest root that issued a place and lets so many certificates that count stand between it and the leaf.
+    #[inline]
+    pub fn lowest_root(&self, place: usize, counted: u8) -> Option<u8> {
+        let mut roots = self.roots[place];
         while roots != 0 {
             let root = roots.trailing_zeros() as u8;
-            if between <= usize::from(self.root_limits[usize::from(root)]) {
+            if counted <= self.root_limits[usize::from(root)] {
                 return Some(root);
             }
             roots &= roots - 1;
@@ -73,17 +84,42 @@ impl Question {
         None
     }
 
-    fn all_stand(&self, path: &[u8]) -> bool {
-        let mut above_leaf = path[1..].iter().enumerate();
-        above_leaf.all(|(between, place)| self.stands(*place, between))
+    /// How many places of a path count, the leaf aside, if each may stand where it does.
+    fn counted_after_leaf(&self, path: &[u8]) -> Option<u8> {
+        path[1..].iter().try_fold(0, |between, place| {
+            let stands = self.stands(*place, between);
+            stands.then(|| between + self.counts(*place))
+        })
     }
 
-    /// Whether a place may stand in a chain with so many certificates between it and the leaf.
+    /// Whether a place may stand in a chain with so many certificates that count between it and the leaf.
     #[inline]
-    pub fn stands(&self, place: u8, between: usize) -> bool {
-        self.between >> place & 1 != 0
-            && between <= usize::from(self.place_limits[usize::from(place)])
+    fn stands(&self, place: u8, between: u8) -> bool {
+        self.between >> place & 1 != 0 && between <= self.place_limits[usize::from(place)]
     }
+
+    /// What a place adds to the number of those that count.
+    #[inline]
+    pub fn counts(&self, place: u8) -> u8 {
+        (self.counted >> place & 1) as u8
+    }
+
+    /// For each place the numbers with which it stands, as bits: so a number is one bit, and gone where it meets a place that does not stand.
+    /// The leaf stands with nothing before it.
+    pub fn standing(&self) -> [u32; 16] {
+        let mut standing = [0; 16];
+        for (place, numbers) in standing[..self.size].iter_mut().enumerate() {
+            let sound = u32::from(self.between >> place & 1);
+            *numbers = sound * up_to(self.place_limits[place]);
+        }
+        standing[0] = 1;
+        standing
+    }
+}
+
+/// The numbers up to a limit as bits; no path has more than 15.
+pub fn up_to(limit: u8) -> u32 {
+    (2 << limit.min(15)) - 1
 }
 
 /// Sets the bit of an issuer's place in the row of each certificate that it issued.

@@ -2,45 +2,50 @@
 
 use crate::question::Question;
 
-/// For each depth of a path a row of the places that may stand there, and one of the roots that may stand above a path that ends there.
+/// Three rows for each number of certificates below that count, the leaf among them: the places that may come next and count, those that may
+/// and don't, and the roots that may stand above. Where nothing is below, the leaf comes next.
 pub struct Seats {
-    pub places: [u64; 16],
-    pub roots: [u64; 16],
+    pub rows: [u64; Seats::ROWS],
 }
 
 impl Seats {
-    /// What may stand at a depth may stand at every lesser one, so each is entered at its deepest and then handed on.
+    /// How many numbers there are: none, and the leaf with those that may come after it.
+    pub const MOST: usize = 17;
+    pub const OTHERS: usize = Seats::MOST;
+    pub const ROOTS: usize = 2 * Seats::MOST;
+    pub const ROWS: usize = 3 * Seats::MOST;
+
     pub fn of(question: &Question) -> Seats {
-        let mut seats = Seats {
-            places: [0; 16],
-            roots: [0; 16],
-        };
-        seats.enter_places(question);
-        seats.enter_roots(question);
-        for depth in (1..question.size).rev() {
-            seats.places[depth - 1] |= seats.places[depth];
-            seats.roots[depth - 1] |= seats.roots[depth];
-        }
-        seats.places[0] = 1;
-        seats
+        let last = question.size - 1;
+        let counted = u64::from(question.counted);
+        let others = u64::from(question.between) & !counted;
+        // only roots that issued some place are ever asked for
+        let roots = question.roots.iter().fold(0, |all, row| all | row);
+        let mut rows = [0; Seats::ROWS];
+        rows[0] = 1;
+        let (places, above) = rows.split_at_mut(Seats::ROOTS);
+        let (counting, not) = places.split_at_mut(Seats::OTHERS);
+        fill(&mut counting[1..], last, counted, &question.place_limits);
+        fill(&mut not[1..], last, others, &question.place_limits);
+        fill(
+            &mut above[1..],
+            last,
+            u64::from(roots),
+            &question.root_limits,
+        );
+        Seats { rows }
     }
+}
 
-    fn enter_places(&mut self, question: &Question) {
-        for place in 1..question.size {
-            let deepest = usize::from(question.place_limits[place]) + 1;
-            self.places[deepest.min(question.size - 1)] |= u64::from(question.between) & 1 << place;
-        }
+/// Who may stand above so many may stand above fewer, so each is entered in the last row where it may and then handed on.
+fn fill(rows: &mut [u64], last: usize, sound: u64, limits: &[u8]) {
+    let mut rest = sound;
+    while rest != 0 {
+        let one = rest.trailing_zeros() as usize;
+        rows[usize::from(limits[one]).min(last)] |= 1 << one;
+        rest &= rest - 1;
     }
-
-    /// Only roots that issued some place are ever asked for.
-    fn enter_roots(&mut self, question: &Question) {
-        let rows = question.roots[..question.size].iter();
-        let mut roots = rows.fold(0, |all, row| all | row);
-        while roots != 0 {
-            let root = roots.trailing_zeros() as usize;
-            let deepest = usize::from(question.root_limits[root]);
-            self.roots[deepest.min(question.size - 1)] |= 1 << root;
-            roots &= roots - 1;
-        }
+    for row in (1..=last).rev() {
+        rows[row - 1] |= rows[row];
     }
 }
