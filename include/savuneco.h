@@ -32,8 +32,8 @@ extern "C" {
      new header.
    A caller holds the major number at build time, by #if or _Static_assert on SAVUNECO_VERSION_MAJOR. The shared object's soname
    carries the same number. */
-#define SAVUNECO_VERSION "3.0.0"
-#define SAVUNECO_VERSION_MAJOR 3
+#define SAVUNECO_VERSION "4.0.0"
+#define SAVUNECO_VERSION_MAJOR 4
 #define SAVUNECO_VERSION_MINOR 0
 #define SAVUNECO_VERSION_PATCH 0
 
