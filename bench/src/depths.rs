@@ -25,36 +25,35 @@ fn put<const CHECKED: bool, T>(list: &mut [T; 16], index: usize, value: T) {
     unsafe { *list.get_unchecked_mut(index) = value }
 }
 
-/// How a path stands: how many certificates that count, the leaf among them, are below whatever comes next; more than any path can have if
-/// one of its places may not stand where it does.
+/// How a path stands: its seat. It grows by one with each certificate that counts, and is 0 if one may not stand where it does.
 #[derive(Clone, Copy)]
 struct Standing {
-    below: usize,
+    seat: usize,
 }
 
 impl Standing {
-    const BEGUN: Standing = Standing { below: 0 };
+    const BEGUN: Standing = Standing { seat: 1 };
 
     /// The roots that may stand above the path.
     fn over<const CHECKED: bool>(self, seats: &Seats) -> u64 {
-        if self.below < Seats::MOST {
-            return at::<CHECKED, _, _>(&seats.rows, Seats::ROOTS + self.below);
+        if self.seat < Seats::MOST {
+            return at::<CHECKED, _, _>(&seats.rows, self.seat);
         }
         0
     }
 
     /// How a path stands that goes on by a place.
     fn added<const CHECKED: bool>(self, seats: &Seats, place: usize) -> Standing {
-        let below = self.below;
-        if below < Seats::MOST {
-            if at::<CHECKED, _, _>(&seats.rows, below) >> place & 1 != 0 {
-                return Standing { below: below + 1 };
+        let seat = self.seat;
+        if seat < Seats::MOST {
+            if at::<CHECKED, _, _>(&seats.rows, Seats::COUNTED + seat) >> place & 1 != 0 {
+                return Standing { seat: seat + 1 };
             }
-            if at::<CHECKED, _, _>(&seats.rows, Seats::OTHERS + below) >> place & 1 != 0 {
-                return Standing { below };
+            if at::<CHECKED, _, _>(&seats.rows, Seats::OTHERS + seat) >> place & 1 != 0 {
+                return Standing { seat };
             }
         }
-        Standing { below: Seats::MOST }
+        Standing { seat: 0 }
     }
 }
 
@@ -64,16 +63,6 @@ struct Level {
     /// The places that the path before leaves free.
     free: u64,
     standing: Standing,
-}
-
-impl Level {
-    /// The level after this one, where the path goes on by a place.
-    fn onward<const CHECKED: bool>(self, seats: &Seats, place: usize) -> Level {
-        Level {
-            free: self.free & !(1 << place),
-            standing: self.standing.added::<CHECKED>(seats, place),
-        }
-    }
 }
 
 pub fn walk<const CHECKED: bool>(question: &Question) -> Answer {
@@ -107,15 +96,15 @@ pub fn walk<const CHECKED: bool>(question: &Question) -> Answer {
         let place = row.ilog2() as usize;
         put::<CHECKED, _>(&mut path, depth, place as u8);
         row ^= 1 << place;
-        let after = here.onward::<CHECKED>(&seats, place);
-        let next = after.free & at::<CHECKED, _, _>(&issuers, place);
-        let above = after.standing.over::<CHECKED>(&seats);
-        let tops = above & at::<CHECKED, _, _>(&roots, place);
+        let free = here.free & !(1 << place);
+        let next = free & at::<CHECKED, _, _>(&issuers, place);
+        let standing = here.standing.added::<CHECKED>(&seats, place);
+        let tops = standing.over::<CHECKED>(&seats) & at::<CHECKED, _, _>(&roots, place);
         let length = depth + 1;
         if next != 0 {
             put::<CHECKED, _>(&mut ahead, depth, row);
             put::<CHECKED, _>(&mut levels, depth, here);
-            here = after;
+            here = Level { free, standing };
             row = next;
             depth = length;
         }

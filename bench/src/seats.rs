@@ -2,17 +2,16 @@
 
 use crate::question::Question;
 
-/// Three rows for each number of certificates below that count, the leaf among them: the places that may come next and count, those that may
-/// and don't, and the roots that may stand above. Where nothing is below, the leaf comes next.
+/// Three rows for each seat: the roots that may stand above, the places that may come next and count, and those that may and don't. Seat 0
+/// is none, seat 1 is before the leaf, and each after it is above the leaf and one certificate more that counts.
 pub struct Seats {
     pub rows: [u64; Seats::ROWS],
 }
 
 impl Seats {
-    /// How many numbers there are: none, and the leaf with those that may come after it.
-    pub const MOST: usize = 17;
-    pub const OTHERS: usize = Seats::MOST;
-    pub const ROOTS: usize = 2 * Seats::MOST;
+    pub const MOST: usize = 18;
+    pub const COUNTED: usize = Seats::MOST;
+    pub const OTHERS: usize = 2 * Seats::MOST;
     pub const ROWS: usize = 3 * Seats::MOST;
 
     pub fn of(question: &Question) -> Seats {
@@ -22,17 +21,17 @@ impl Seats {
         // only roots that issued some place are ever asked for
         let roots = question.roots.iter().fold(0, |all, row| all | row);
         let mut rows = [0; Seats::ROWS];
-        rows[0] = 1;
-        let (places, above) = rows.split_at_mut(Seats::ROOTS);
-        let (counting, not) = places.split_at_mut(Seats::OTHERS);
-        fill(&mut counting[1..], last, counted, &question.place_limits);
-        fill(&mut not[1..], last, others, &question.place_limits);
+        let (above, places) = rows.split_at_mut(Seats::COUNTED);
+        let (counting, not) = places.split_at_mut(Seats::OTHERS - Seats::COUNTED);
         fill(
-            &mut above[1..],
+            &mut above[2..],
             last,
             u64::from(roots),
             &question.root_limits,
         );
+        fill(&mut counting[2..], last, counted, &question.place_limits);
+        fill(&mut not[2..], last, others, &question.place_limits);
+        counting[1] = 1;
         Seats { rows }
     }
 }

@@ -44,7 +44,7 @@ pub fn beside(lasting: Duration) {
         lasting,
     );
     row("names respelt", &inputs::alike(RESPELT), lasting);
-    row_after("attributes turned", &inputs::alike(TURNED), lasting);
+    row("attributes turned", &inputs::alike(TURNED), lasting);
     row_after("keys renewed", &inputs::renewed(8).file(), lasting);
     let mut whole = vec![0.0; ALL.len()];
     for (name, file) in ordinary_files() {
