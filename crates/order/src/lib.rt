@@ -23,6 +23,14 @@ const SLOTS: [u8; BundlePlace::MOST + 1] = [
     79,
     92,
     106,
+    121,
+    137,
+    154,
+    172,
+    191,
+    211,
+    232,
+    254,
 ];
 
 // The slots that n certificates need; 0 past the table's end.

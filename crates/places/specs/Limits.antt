@@ -3,7 +3,7 @@
 use Prim.Native.Nat.{ℕ}
 
 abbrev pub rootsMost : ℕ
-rootsMost = 32
+rootsMost = 64
 
 abbrev pub bundleMost : ℕ
-bundleMost = 16
+bundleMost = 24

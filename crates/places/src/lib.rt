@@ -2,11 +2,12 @@
 pub struct RootPlace(pub u8);
 
 impl RootPlace {
-    pub const MOST: usize = 32;
+    pub const MOST: usize = 64;
 }
 
+#[repr(C)]
 pub struct BundlePlace(pub u8);
 
 impl BundlePlace {
-    pub const MOST: usize = 16;
+    pub const MOST: usize = 24;
 }

@@ -1,4 +1,4 @@
-// A row: a set of places as the bits of one number. A row has room for more places than any limit asks, so that one width serves all.
+// A row: a set of places as the bits of one number. A row has room for as many places as any limit asks, so that one width serves all.
 ghost use mathlib.Core.Path.{_≡_};
 ghost use Rattle.rows.specs.Rows.{has, joined, left, common, either, lowest, highest, below};
 

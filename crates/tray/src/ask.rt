@@ -31,7 +31,7 @@ pub(crate) fn answer(line: &[u8]) {
 }
 
 fn lend(label: &[u8], question: &[u8], lent: usize, text: &[u8]) {
-    let mut bytes = io::buffer();
+    let mut bytes = io::large_buffer();
     let mut room = [b'#'; MOST];
     ask(
         label,

@@ -7,7 +7,7 @@
 // The first is a search with the card's own budget, the second a paused run with K in the budget's place, 9,999 at most.
 // ROOM is how many bytes are lent, at most twice what a full bundle needs; each of them is #.
 // CARD is a whole card file, in words: bytes as two digits each, 0 to 9 and A to F. A word 3*0102 stands for 010201020102.
-// Empty lines and lines that begin with # are skipped. What is over 4,096 bytes of a card, or 65,536 of the input, is not read.
+// Empty lines and lines that begin with # are skipped. What is over 65,536 bytes of a card or of the input is not read.
 //
 // An answer is the label, the line that the terminal writes for such an answer, and the lent room as the search leaves it: the paths in its lowest slots,
 // then how many bytes are zero, how many are # and how many are left.
