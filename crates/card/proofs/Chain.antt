@@ -1,5 +1,6 @@
--- Sections read one after another, each with its value beside the place past it, make one card: `chained`, for the proof of `read`. The
--- sections in their order: specs/Card.antt; a value beside a place: fields/proofs/Held.antt.
+-- Sections read one after another, each with its value beside the place past it, make one card (`chained`), and what is told of it by how its
+-- end was read (`told-read`, `told-stopped`), for the proof of `read`. The sections in their order: specs/Card.antt; a value beside a place:
+-- fields/proofs/Held.antt.
 use Prim.Native.Nat.{ℕ}
 use mathlib.Core.Path.{_≡_, refl, sym, ap, _∙_}
 use mathlib.Core.Bool.{Bool, true, false, cond}
@@ -7,7 +8,8 @@ use mathlib.Core.List.{List}
 use lib.Dec.{leb, ltb}
 use lib.ListN.{length}
 use Rattle.fields.specs.Fields.{Parsed, got, stop, after, whole}
-use Rattle.fields.specs.Answers.{passed, passing, held}
+use Rattle.fields.specs.Answers.{number, passed, passing, held}
+use Rattle.fields.specs.declared.fault.Fault.{Fault}
 use Rattle.fields.specs.declared.Past.{Past}
 use Rattle.fields.specs.declared.Past.the-variants.{Got, Stop}
 use Rattle.fields.proofs.Held.{as-told}
@@ -18,7 +20,8 @@ use Rattle.verdicts.specs.Grid.{gridP}
 use Rattle.verdicts.specs.declared.Verdicts.{Verdicts}
 use Rattle.task.specs.Placed.{taskP}
 use Rattle.task.specs.declared.Task.{Task}
-use Rattle.card.specs.Card.{cardP, fileP}
+use Rattle.card.specs.Answers.{answer}
+use Rattle.card.specs.Card.{cardP, fileP, fresh-card}
 use Rattle.card.specs.Content.{fileMost, editionP}
 use Rattle.card.specs.declared.Card.{Card}
 
@@ -102,3 +105,12 @@ module _ (s : List ℕ) (begun after-roots after-bundle after-verdicts after-tas
         ∙ sym (next-section (with-roots s) (ended s) begun after-roots r (rootsP s) roots)
         ∙ ap (λ x. after x (λ _ e. after (with-edition s e) (ended s))) edition
         ∙ sym (first-section (ended s) (leb (length s) fileMost) (editionP s 0) (with-edition s))
+
+module _ (c : Card) (end : Past) (x : Parsed Card) (is : held end c ≡ x) where
+  pub told-read : (e : ℕ) → end ≡ Got e → _≡_ {A = ℕ × Card} (0, c) (answer x)
+  unfolding held
+  told-read e h = rw (sym is, h)
+
+  pub told-stopped : (f : Fault) → end ≡ Stop f → _≡_ {A = ℕ × Card} (number f, fresh-card) (answer x)
+  unfolding held
+  told-stopped f h = rw (sym is, h)

@@ -21,7 +21,7 @@ ghost use mathlib.Core.Bool.{cond};
 ghost use lib.Dec.{leb, ltb};
 ghost use lib.ListN.{length};
 ghost use Rattle.fields.specs.Fields.{got, stop, after};
-ghost use Rattle.fields.specs.Answers.{passed, passing, held};
+ghost use Rattle.fields.specs.Answers.{passed, passing};
 ghost use Rattle.card.specs.Card.{fileP, fresh-card};
 ghost use Rattle.card.specs.Content.{fileMost, editionP};
 ghost use Rattle.card.specs.Answers.{readAs, answer};
@@ -65,7 +65,8 @@ pub struct Reading {
     pub ended: Ended,
 }
 
-// A file's card, or the first fault from left to right.
+// A file's card, or the first fault from left to right, and then nothing of what was read before it. Each arm returns, so that the card is
+// not copied out of the match.
 pub fn read(file: &[u8]) -> Reading
     ensures { λ r. ⌜ readAs r ≡ answer (fileP (now (file .entry))) ⌝ }
 {
@@ -82,16 +83,25 @@ pub fn read(file: &[u8]) -> Reading
     let task_read = task_after(file, after_verdicts);
     let after_task = task_read.past;
     let task = task_read.task;
-    let end = end_after(file, after_task);
-    settled(
-        end,
-        Card {
-            roots,
-            bundle,
-            verdicts,
-            task,
-        },
-    )
+    match end_after(file, after_task) {
+        Past::Got(_) => {
+            return Reading {
+                card: Card {
+                    roots,
+                    bundle,
+                    verdicts,
+                    task,
+                },
+                ended: Ended::Read,
+            };
+        }
+        Past::Stop(fault) => {
+            return Reading {
+                card: Card::new(),
+                ended: Ended::Stop(fault),
+            };
+        }
+    }
 }
 
 // The place past the edition, in a file that is not too long.
@@ -130,26 +140,6 @@ fn end_after(file: &[u8], past: Past) -> Past
         }
         Past::Stop(fault) => {
             return Past::Stop(fault);
-        }
-    }
-}
-
-// With a fault nothing is handed out of what was read before it. Each arm returns, so that the card is not copied out of the match.
-fn settled(end: Past, card: Card) -> Reading
-    ensures { λ r. ⌜ readAs r ≡ answer (held end card) ⌝ }
-{
-    match end {
-        Past::Got(_) => {
-            return Reading {
-                card,
-                ended: Ended::Read,
-            };
-        }
-        Past::Stop(fault) => {
-            return Reading {
-                card: Card::new(),
-                ended: Ended::Stop(fault),
-            };
         }
     }
 }

@@ -1,21 +1,19 @@
 // The bundle: a count and so many records, the leaf first.
+use crate::count_after;
 use fields::CountAt;
 use fields::Fault;
 use fields::Past;
-use fields::count_at;
 use places::BundlePlace;
 use record::Record;
 use record::RecordAt;
 use record::record_at;
 ghost use mathlib.Core.Path.{_≡_};
-ghost use Prim.Native.Nat.{_≤_};
 ghost use lib.ListN.{replicate};
-ghost use Rattle.fields.specs.Fields.{stop, after, many};
+ghost use Rattle.fields.specs.Fields.{stop, after};
 ghost use Rattle.fields.specs.Answers.{number, passed, held, Emptied};
 ghost use Rattle.record.specs.Fresh.{fresh};
-ghost use Rattle.record.specs.Record.{recordP};
 ghost use Rattle.places.specs.Limits.{bundleMost};
-ghost use Rattle.certificates.specs.Certificates.{filledBundle, bundleP, fresh-bundle, recordOf, sizeOf};
+ghost use Rattle.certificates.specs.Certificates.{bundleP, fresh-bundle, recordOf, sizeOf};
 
 // The count stands last, so that the records are copied whole and aligned.
 pub struct Bundle {
@@ -70,54 +68,43 @@ pub struct BundleRead {
     pub bundle: Bundle,
 }
 
-// The bundle where the roots end. Each arm returns, so that the records are not copied out of the match.
+// The bundle where the roots end. The records are read here and each arm returns, so that they are not copied from function to function.
 pub fn bundle_after(file: &[u8], past: Past) -> BundleRead
     ensures { λ r. ⌜ held (r .past) (r .bundle) ≡ after (passed past) (λ _ at. bundleP (now (file .entry)) at) ⌝ }
     ensures { λ r. ⌜ Emptied (r .past) (r .bundle) fresh-bundle ⌝ }
 {
-    match past {
-        Past::Got(at) => match count_at(file, at, Bundle::LEAST, Bundle::MOST) {
-            CountAt::Got { count, next } => {
-                return bundle_records(file, next, count);
+    match count_after(file, past, Bundle::LEAST, Bundle::MOST) {
+        CountAt::Got {
+            count: n,
+            next: first,
+        } => {
+            let none = Record::new();
+            let mut records = [none; Bundle::MOST];
+            let mut at = first;
+            let mut i: usize = 0;
+            while i < n {
+                match record_at(file, at) {
+                    RecordAt::Got { record, next } => {
+                        records[i] = record;
+                        at = next;
+                        i += 1;
+                    }
+                    RecordAt::Stop(fault) => {
+                        return no_bundle(fault);
+                    }
+                }
             }
-            CountAt::Stop(fault) => {
-                return no_bundle(fault);
-            }
-        },
-        Past::Stop(fault) => {
+            return BundleRead {
+                past: Past::Got(at),
+                bundle: Bundle {
+                    records,
+                    count: n as u8,
+                },
+            };
+        }
+        CountAt::Stop(fault) => {
             return no_bundle(fault);
         }
-    }
-}
-
-// n records from the first on.
-fn bundle_records(file: &[u8], first: usize, n: usize) -> BundleRead
-    requires { ⌜ n ≤ bundleMost ⌝ }
-    ensures { λ r. ⌜ held (r .past) (r .bundle) ≡ filledBundle (many recordP n (now (file .entry)) first) ⌝ }
-    ensures { λ r. ⌜ Emptied (r .past) (r .bundle) fresh-bundle ⌝ }
-{
-    let none = Record::new();
-    let mut records = [none; Bundle::MOST];
-    let mut at = first;
-    let mut i: usize = 0;
-    while i < n {
-        match record_at(file, at) {
-            RecordAt::Got { record, next } => {
-                records[i] = record;
-                at = next;
-                i += 1;
-            }
-            RecordAt::Stop(fault) => {
-                return no_bundle(fault);
-            }
-        }
-    }
-    BundleRead {
-        past: Past::Got(at),
-        bundle: Bundle {
-            records,
-            count: n as u8,
-        },
     }
 }
 

@@ -7,6 +7,26 @@ mod roots;
 pub use bundle::Bundle;
 pub use bundle::BundleRead;
 pub use bundle::bundle_after;
+use fields::CountAt;
+use fields::Past;
+use fields::count_at;
 pub use roots::Roots;
 pub use roots::RootsRead;
 pub use roots::roots_after;
+ghost use mathlib.Core.Path.{_≡_};
+ghost use Rattle.fields.specs.Fields.{after, countP};
+ghost use Rattle.fields.specs.Answers.{counted, passed};
+
+// A list's count, where the section before it ends.
+fn count_after(file: &[u8], past: Past, least: usize, most: usize) -> CountAt
+    ensures { λ r. ⌜ counted r ≡ after (passed past) (λ _ at. countP least most (now (file .entry)) at) ⌝ }
+{
+    match past {
+        Past::Got(at) => {
+            return count_at(file, at, least, most);
+        }
+        Past::Stop(fault) => {
+            return CountAt::Stop(fault);
+        }
+    }
+}

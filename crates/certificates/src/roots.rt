@@ -1,21 +1,19 @@
 // The roots: a count and so many records.
+use crate::count_after;
 use fields::CountAt;
 use fields::Fault;
 use fields::Past;
-use fields::count_at;
 use places::RootPlace;
 use record::Record;
 use record::RecordAt;
 use record::record_at;
 ghost use mathlib.Core.Path.{_≡_};
-ghost use Prim.Native.Nat.{_≤_};
 ghost use lib.ListN.{replicate};
-ghost use Rattle.fields.specs.Fields.{stop, after, many};
+ghost use Rattle.fields.specs.Fields.{stop, after};
 ghost use Rattle.fields.specs.Answers.{number, passed, held, Emptied};
 ghost use Rattle.record.specs.Fresh.{fresh};
-ghost use Rattle.record.specs.Record.{recordP};
 ghost use Rattle.places.specs.Limits.{rootsMost};
-ghost use Rattle.certificates.specs.Certificates.{filledRoots, rootsP, fresh-roots, recordOf, sizeOf};
+ghost use Rattle.certificates.specs.Certificates.{rootsP, fresh-roots, recordOf, sizeOf};
 
 // The count stands last, so that the records are copied whole and aligned.
 pub struct Roots {
@@ -70,54 +68,43 @@ pub struct RootsRead {
     pub roots: Roots,
 }
 
-// The roots where the edition ends. Each arm returns, so that the records are not copied out of the match.
+// The roots where the edition ends. The records are read here and each arm returns, so that they are not copied from function to function.
 pub fn roots_after(file: &[u8], past: Past) -> RootsRead
     ensures { λ r. ⌜ held (r .past) (r .roots) ≡ after (passed past) (λ _ at. rootsP (now (file .entry)) at) ⌝ }
     ensures { λ r. ⌜ Emptied (r .past) (r .roots) fresh-roots ⌝ }
 {
-    match past {
-        Past::Got(at) => match count_at(file, at, Roots::LEAST, Roots::MOST) {
-            CountAt::Got { count, next } => {
-                return root_records(file, next, count);
+    match count_after(file, past, Roots::LEAST, Roots::MOST) {
+        CountAt::Got {
+            count: n,
+            next: first,
+        } => {
+            let none = Record::new();
+            let mut records = [none; Roots::MOST];
+            let mut at = first;
+            let mut i: usize = 0;
+            while i < n {
+                match record_at(file, at) {
+                    RecordAt::Got { record, next } => {
+                        records[i] = record;
+                        at = next;
+                        i += 1;
+                    }
+                    RecordAt::Stop(fault) => {
+                        return no_roots(fault);
+                    }
+                }
             }
-            CountAt::Stop(fault) => {
-                return no_roots(fault);
-            }
-        },
-        Past::Stop(fault) => {
+            return RootsRead {
+                past: Past::Got(at),
+                roots: Roots {
+                    records,
+                    count: n as u8,
+                },
+            };
+        }
+        CountAt::Stop(fault) => {
             return no_roots(fault);
         }
-    }
-}
-
-// n records from the first on.
-fn root_records(file: &[u8], first: usize, n: usize) -> RootsRead
-    requires { ⌜ n ≤ rootsMost ⌝ }
-    ensures { λ r. ⌜ held (r .past) (r .roots) ≡ filledRoots (many recordP n (now (file .entry)) first) ⌝ }
-    ensures { λ r. ⌜ Emptied (r .past) (r .roots) fresh-roots ⌝ }
-{
-    let none = Record::new();
-    let mut records = [none; Roots::MOST];
-    let mut at = first;
-    let mut i: usize = 0;
-    while i < n {
-        match record_at(file, at) {
-            RecordAt::Got { record, next } => {
-                records[i] = record;
-                at = next;
-                i += 1;
-            }
-            RecordAt::Stop(fault) => {
-                return no_roots(fault);
-            }
-        }
-    }
-    RootsRead {
-        past: Past::Got(at),
-        roots: Roots {
-            records,
-            count: n as u8,
-        },
     }
 }
 

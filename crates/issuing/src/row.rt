@@ -17,7 +17,8 @@ ghost use Rattle.verdicts.specs.Grid.{bundleSigned, rootSigned};
 ghost use Rattle.rows.specs.Rows.{rowOf};
 ghost use Rattle.issuing.specs.Records.{claimOf, likelyIssuedAt};
 
-// Which bundle places issued the certificate at a place.
+// Which bundle places issued the certificate at a place. A record is taken straight from its place, so that the bundle is not copied for
+// each pair.
 pub(crate) fn bundle_row(
     file: &[u8],
     bundle: Bundle,
@@ -32,7 +33,7 @@ pub(crate) fn bundle_row(
     let mut i: u8 = 0;
     while i < n {
         if verdicts.bundle_signed(file, BundlePlace(i), subject) {
-            if fits(file, bundle.record(BundlePlace(i)), claim) {
+            if fits(file, bundle.records[i as usize], claim) {
                 row = with(row, i);
             }
         }

@@ -1,14 +1,16 @@
 -- A loop that judges each place once: it begins with no place (`judging-starts`), and each turn puts a place's limit, and the place itself
 -- where it is sound (`judging-turn`); places that are not asked for are skipped (`judging-skips`); it ends with each place judged
--- (`judging-ends`). For the proof of `places_between`, and for Asking.antt, which judges the roots.
+-- (`judging-ends`). A row of some of the places that are judged, by their test or by their row (`row-of-judged`). For the proof of
+-- `places_judged`, and for Asking.antt, which judges the roots.
 use Prim.Native.Nat.{ℕ, zero, suc, _+_, _<_, _≤_}
-use mathlib.Core.Bool.{Bool, true, false, cond}
+use mathlib.Core.Bool.{Bool, true, false, cond, _&&_}
 use mathlib.Core.List.{List}
-use mathlib.Core.Path.{_≡_, sym, ap, _∙_}
+use mathlib.Core.Path.{_≡_, refl, sym, ap, _∙_}
 use native.Mathlib.Omega.{arith}
 use lib.ListN.{set, replicate}
-use Rattle.rows.specs.Rows.{rowOf, joined, listing}
-use Rattle.rows.proofs.Places.{row-none, row-more, row-kept}
+use borrow.Author.Tests.{lt-ltb}
+use Rattle.rows.specs.Rows.{has, rowOf, joined, listing}
+use Rattle.rows.proofs.Places.{row-none, row-more, row-kept, has-row}
 use Rattle.rows.proofs.Listing.{listing-none, listing-next, listing-kept}
 
 -- the places below i are judged
@@ -44,3 +46,12 @@ module _ (test : ℕ → Bool) (limit : ℕ → ℕ) (most : ℕ) where
         → Judging test limit most r (set limits i l) (i + 1)
     judging-turn l r true e t q = record { row = q ∙ ap (λ x. joined x i) (j .row) ∙ sym (row-more test i t); list = limit-put l e }
     judging-turn l r false e t q = record { row = q ∙ j .row ∙ sym (row-kept test i t); list = limit-put l e }
+
+row-alike : (f g : ℕ → Bool) (n : ℕ) → ((i : ℕ) → i < n → f i ≡ g i) → rowOf f n ≡ rowOf g n
+unfolding rowOf
+row-alike f g zero h = refl
+row-alike f g (suc n) h = rw (h n (omega arith), row-alike f g n (λ i k. h i (omega arith)))
+
+pub row-of-judged : (test other : ℕ → Bool) (n : ℕ) → n ≤ 64 → rowOf (λ i. test i && other i) n ≡ rowOf (λ i. has i (rowOf test n) && other i) n
+row-of-judged test other n h =
+    row-alike _ _ n (λ i k. let e : has i (rowOf test n) ≡ test i = has-row test n i h ∙ rw (lt-ltb i n k) in rw e)

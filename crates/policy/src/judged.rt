@@ -1,6 +1,5 @@
 // What can be judged once per certificate is judged here, once, so that a path costs a few operations a place.
 use card::Bundle;
-use card::BundlePlace;
 use card::Card;
 use card::RootPlace;
 use card::Roots;
@@ -12,7 +11,6 @@ use issuing::self_issued;
 use issuing::who_issued;
 use record::Head;
 use record::Record;
-use rows::has;
 use rows::lowest;
 use rows::with;
 use rows::without;
@@ -86,51 +84,58 @@ pub fn judge(file: &[u8], time: Time, card: Card) -> Judged
 {
     let issuing = who_issued(file, card);
     let by_roots = issuing.roots;
-    let between = places_between(file, time, card.bundle);
     let above = roots_above(file, time, issuers_of(by_roots), card.roots);
-    let leaves = leaves_in(file, time, part(file, card.task.host.name), card.bundle);
-    let counted = counted_in(file, between.sound, card.bundle);
+    let places = places_judged(file, time, part(file, card.task.host.name), card.bundle);
+    let between = places.between;
     Judged {
         issuing,
         between,
         above,
-        leaves,
-        counted,
+        leaves: places.leaves,
+        counted: places.counted,
     }
 }
 
-// Of these places those that path lengths count: they are not self-issued. The others' names are not compared.
-fn counted_in(file: &[u8], sound: u64, bundle: Bundle) -> u64
-    ensures { λ r. ⌜ r ≡ countedPlaces (now (file .entry)) sound bundle ⌝ }
+// What is judged of the bundle.
+struct Places {
+    between: Between,
+    leaves: u64,
+    counted: u64,
+}
+
+// Each certificate of the bundle, fetched once and judged for every place that it may have in a path. Path lengths count those between that
+// are not self-issued; the others' names are not compared.
+fn places_judged(file: &[u8], time: Time, host: &[u8], bundle: Bundle) -> Places
+    ensures { λ r. ⌜ (r .between .sound ≡ soundPlaces (now (file .entry)) time bundle) × (r .between .limits ≡ placeLimits (now (file .entry)) bundle) ⌝ }
+    ensures { λ r. ⌜ r .leaves ≡ soundLeaves (now (file .entry)) time (now (host .entry)) bundle ⌝ }
+    ensures { λ r. ⌜ r .counted ≡ countedPlaces (now (file .entry)) (r .between .sound) bundle ⌝ }
 {
     let n = bundle.size();
+    let mut sound: u64 = 0;
+    let mut limits = [0u8; Bundle::MOST];
+    let mut leaves: u64 = 0;
     let mut counted: u64 = 0;
     let mut i: u8 = 0;
     while i < n {
-        if has(sound, i) {
-            if !self_issued(file, bundle.record(BundlePlace(i))) {
+        let record = bundle.records[i as usize];
+        let head = record.head(file);
+        limits[i as usize] = limit(file, head, record);
+        if between_sound(file, time, head, record) {
+            sound = with(sound, i);
+            if !self_issued(file, record) {
                 counted = with(counted, i);
             }
         }
-        i += 1;
-    }
-    counted
-}
-
-// The places that are sound as the leaf.
-fn leaves_in(file: &[u8], time: Time, host: &[u8], bundle: Bundle) -> u64
-    ensures { λ r. ⌜ r ≡ soundLeaves (now (file .entry)) time (now (host .entry)) bundle ⌝ }
-{
-    let n = bundle.size();
-    let mut leaves: u64 = 0;
-    let mut i: u8 = 0;
-    while i < n {
-        if leaf_sound(file, time, host, bundle.record(BundlePlace(i))) {
+        if leaf_sound(file, time, host, record) {
             leaves = with(leaves, i);
         }
         i += 1;
     }
-    leaves
+    Places {
+        between: Between { sound, limits },
+        leaves,
+        counted,
+    }
 }
 
 // All that is asked of the leaf.
@@ -183,25 +188,6 @@ fn top_sound(time: Time, head: Head) -> bool
         }
     }
     false
-}
-
-fn places_between(file: &[u8], time: Time, bundle: Bundle) -> Between
-    ensures { λ r. ⌜ (r .sound ≡ soundPlaces (now (file .entry)) time bundle) × (r .limits ≡ placeLimits (now (file .entry)) bundle) ⌝ }
-{
-    let n = bundle.size();
-    let mut sound: u64 = 0;
-    let mut limits = [0u8; Bundle::MOST];
-    let mut i: u8 = 0;
-    while i < n {
-        let record = bundle.record(BundlePlace(i));
-        let head = record.head(file);
-        limits[i as usize] = limit(file, head, record);
-        if between_sound(file, time, head, record) {
-            sound = with(sound, i);
-        }
-        i += 1;
-    }
-    Between { sound, limits }
 }
 
 fn roots_above(file: &[u8], time: Time, asked: u64, roots: Roots) -> Above

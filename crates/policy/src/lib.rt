@@ -9,6 +9,7 @@ pub use judged::Between;
 pub use judged::Judged;
 pub use judged::judge;
 pub use seating::Seats;
+pub use seating::seats_in;
 pub use seating::seats_of;
 pub use standing::Standing;
 pub use standing::added;

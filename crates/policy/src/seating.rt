@@ -39,6 +39,15 @@ impl Seats {
 pub fn seats_of(judged: Judged, after: u8) -> Seats
     ensures { λ r. ⌜ Seated judged after (r .rows) ⌝ }
 {
+    let mut rows = [0u64; Seats::ROWS];
+    seats_in(&mut rows, judged, after);
+    Seats { rows }
+}
+
+// The same in lent rows, whatever they held.
+pub fn seats_in(rows: &mut [u64; Seats::ROWS], judged: Judged, after: u8)
+    ensures { λ _. ⌜ Seated judged after (now (rows .exit)) ⌝ }
+{
     let last = lesser(after as usize, Bundle::MOST - 1);
     let tops = shared(judged.above.sound, below(Roots::MOST as u8));
     let between = shared(judged.between.sound, below(Bundle::MOST as u8));
@@ -46,12 +55,11 @@ pub fn seats_of(judged: Judged, after: u8) -> Seats
     let others = without(between, judged.counted);
     let roots = judged.above.limits;
     let places = judged.between.limits;
-    let mut rows = [0u64; Seats::ROWS];
-    fill_from(&mut rows, Seats::ROOTS + 2, last, tops, &roots);
-    fill_from(&mut rows, Seats::COUNTED + 2, last, counted, &places);
-    fill_from(&mut rows, Seats::OTHERS + 2, last, others, &places);
+    *rows = [0u64; Seats::ROWS];
+    fill_from(rows, Seats::ROOTS + 2, last, tops, &roots);
+    fill_from(rows, Seats::COUNTED + 2, last, counted, &places);
+    fill_from(rows, Seats::OTHERS + 2, last, others, &places);
     rows[Seats::COUNTED + 1] = judged.leaves;
-    Seats { rows }
 }
 
 // Fills the rows of a kind, which begin at `from`, and leaves the others as they are.

@@ -17,7 +17,6 @@ use rows::without;
 ghost use mathlib.Core.List.{List, [], _∷_};
 ghost use mathlib.Core.Path.{_≡_};
 ghost use Prim.Native.Nat.{ℕ, _+_, _≤_, _<_};
-ghost use lib.ListN.{set};
 ghost use Rattle.places.specs.Limits.{bundleMost};
 ghost use Rattle.question.specs.Question.{placesBy};
 ghost use Rattle.policy.specs.Standing.{over, added};
@@ -126,7 +125,8 @@ pub(crate) fn walk(
     loop {
         if row == 0 {
             if d == 0 {
-                return stopped(Reply::Refused { steps }, 0, place, ahead, d, row);
+                ahead[d] = row;
+                return stopped(Reply::Refused { steps }, 0, place, ahead, d);
             }
             d -= 1;
             row = ahead[d];
@@ -134,7 +134,8 @@ pub(crate) fn walk(
             continue;
         }
         if budget <= steps {
-            return stopped(Reply::Exhausted { steps }, 0, place, ahead, d, row);
+            ahead[d] = row;
+            return stopped(Reply::Exhausted { steps }, 0, place, ahead, d);
         }
         steps += 1;
         let i = next_place(row);
@@ -153,30 +154,28 @@ pub(crate) fn walk(
         }
         if tops != 0 {
             let root = RootPlace(lowest(tops));
-            return stopped(Reply::Accepted { root, steps }, len, place, ahead, d, row);
+            ahead[d] = row;
+            return stopped(Reply::Accepted { root, steps }, len, place, ahead, d);
         }
     }
 }
 
-// Stopped at a depth: its row is put back among the others.
+// Stopped at a depth, whose row was put back among the others.
 fn stopped(
     reply: Reply,
     len: usize,
     place: [u8; BundlePlace::MOST],
     ahead: [u64; BundlePlace::MOST],
     depth: usize,
-    row: u64,
 ) -> End
     requires { ⌜ depth < bundleMost ⌝ }
-    ensures { λ r. ⌜ r ≡ record { reply = reply; len = len; place = place; ahead = set ahead depth row; depths = depth + 1 } ⌝ }
+    ensures { λ r. ⌜ r ≡ record { reply = reply; len = len; place = place; ahead = ahead; depths = depth + 1 } ⌝ }
 {
-    let mut all = ahead;
-    all[depth] = row;
     End {
         reply,
         len,
         place,
-        ahead: all,
+        ahead,
         depths: depth + 1,
     }
 }

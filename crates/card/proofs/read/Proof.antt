@@ -1,7 +1,9 @@
--- `read` hands each section where the last one ended to the next, which makes the whole card.
-use mathlib.Core.Path.{ap, _∙_}
-use Rattle.card.specs.Answers.{answer}
-use Rattle.card.proofs.Chain.{chained}
+-- `read` hands each section where the last one ended to the next, which makes the whole card; with a fault it hands out none of it.
+use mathlib.Core.Path.{_≡_}
+use Rattle.fields.specs.Answers.{held}
+use Rattle.card.specs.Card.{fileP}
+use Rattle.card.specs.declared.Card.{Card}
+use Rattle.card.proofs.Chain.{chained, told-read, told-stopped}
 use borrow.Author.Needs.{needs}
 use Rattle.card.proofs.read.Statement.{statement}
 use Rattle.card.proofs.read.Tie as tie
@@ -24,20 +26,35 @@ task-after-requires c κs = search needs
 end-after-requires : tie.Need-end-after-requires
 end-after-requires c κs = search needs
 
-settled-requires : tie.Need-settled-requires
-settled-requires c κs = search needs
-
-returns : tie.Need-returns
-returns c =
-    let e = c .before in
+-- the sections make the card, with the end that was read
+whole : (e : tie.After-end-after) → let t = e .before .before in let v = t .before .before in let b = v .before .before in let r = b .before .before in
+    held {A = Card} (e .end-after .result)
+    (record { roots = r .roots-after .result .roots; bundle = b .bundle-after .result .bundle; verdicts = v .verdicts-after .result .verdicts; task = t .task-after .result .task })
+    ≡ fileP (r .before .before .before .args .file .now)
+whole e =
     let t = e .before .before in
     let v = t .before .before in
     let b = v .before .before in
     let r = b .before .before in
-    c .settled .ensures
-    ∙ ap answer
-    (chained _ (r .before .edition-past .result) _ _ _ _ _ _ _ _ _ (r .before .edition-past .ensures) (r .roots-after .ensures .0) (b .bundle-after .ensures .0)
-    (v .verdicts-after .ensures .0) (t .task-after .ensures .0) (e .end-after .ensures))
+    chained _ (r .before .edition-past .result) _ _ _ _ _ _ _ _ _ (r .before .edition-past .ensures) (r .roots-after .ensures .0) (b .bundle-after .ensures .0)
+    (v .verdicts-after .ensures .0) (t .task-after .ensures .0) (e .end-after .ensures)
+
+enum-told : tie.Need-enum-told
+enum-told c = search needs
+
+returns : tie.Need-returns
+returns c = told-read _ _ _ (whole (c .before .before)) _ (c .enum-told .given .1)
+
+enum-known-fault : tie.Need-enum-known-fault
+enum-known-fault c = search needs
+
+new-requires : tie.Need-new-requires
+new-requires c κs = search needs
+
+returns-2 : tie.Need-returns-2
+returns-2 c =
+    let f = c .before .before in
+    rw (c .new .ensures) (told-stopped _ _ _ (whole (f .before .before)) _ (f .fault .given .1))
 
 pub read-spec : {M : Type 1} → statement M
 read-spec =
@@ -49,5 +66,8 @@ read-spec =
     verdicts-after-requires
     task-after-requires
     end-after-requires
-    settled-requires
-    returns)
+    enum-told
+    returns
+    enum-known-fault
+    new-requires
+    returns-2)

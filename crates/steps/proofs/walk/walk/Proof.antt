@@ -51,6 +51,12 @@ loop-holds c =
     let s = c .before .before .before .before in
     record { stands = stands-start (s .pre .0) (search needs) (search needs) (λ j. wide s j .fits) (s .pre .1); vain = vain-none; time = zero-le }
 
+mul-ahead : tie.Need-mul-ahead Inv-loop μ-loop
+mul-ahead c = search needs
+
+array-write-ahead : tie.Need-array-write-ahead Inv-loop μ-loop
+array-write-ahead c = search needs
+
 stopped-requires : tie.Need-stopped-requires Inv-loop μ-loop
 stopped-requires c κs = search needs
 
@@ -86,6 +92,12 @@ loop-again c =
       vain = l .inv .vain;
       time = l .inv .time;
     }
+
+mul-ahead-2 : tie.Need-mul-ahead-2 Inv-loop μ-loop
+mul-ahead-2 c = search needs
+
+array-write-ahead-2 : tie.Need-array-write-ahead-2 Inv-loop μ-loop
+array-write-ahead-2 c = search needs
 
 stopped-requires-2 : tie.Need-stopped-requires-2 Inv-loop μ-loop
 stopped-requires-2 c κs = search needs
@@ -145,11 +157,11 @@ roots-over-requires c κs = search needs
 add-len : tie.Need-add-len Inv-loop μ-loop
 add-len c = search needs
 
-mul-ahead : tie.Need-mul-ahead Inv-loop μ-loop
-mul-ahead c = search needs
+mul-ahead-3 : tie.Need-mul-ahead-3 Inv-loop μ-loop
+mul-ahead-3 c = search needs
 
-array-write-ahead : tie.Need-array-write-ahead Inv-loop μ-loop
-array-write-ahead c = search needs
+array-write-ahead-3 : tie.Need-array-write-ahead-3 Inv-loop μ-loop
+array-write-ahead-3 c = search needs
 
 mul-levels : tie.Need-mul-levels Inv-loop μ-loop
 mul-levels c = search needs
@@ -215,16 +227,23 @@ moved c =
 lowest-requires : tie.Need-lowest-requires Inv-loop μ-loop
 lowest-requires c κs = search needs
 
+mul-ahead-4 : tie.Need-mul-ahead-4 Inv-loop μ-loop
+mul-ahead-4 c = search (needs, moved (c .before .before .before) .0 .deep)
+
+array-write-ahead-4 : tie.Need-array-write-ahead-4 Inv-loop μ-loop
+array-write-ahead-4 c = moved (c .before .before .before) .0 .deep
+
 stopped-requires-3 : tie.Need-stopped-requires-3 Inv-loop μ-loop
-stopped-requires-3 c κs = moved (c .before .before) .0 .deep
+stopped-requires-3 c κs = moved (c .before .before .before) .0 .deep
 
 returns-3 : tie.Need-returns-3 Inv-loop μ-loop
 returns-3 c =
-    let j = c .before .before .before in
+    let m = c .before .before in
+    let j = m .before .before in
     let t = j .before in
     let l = turn t .loop in
-    let r = row-found _ _ _ (over t) (omega (arith, c .before .before .if5 .taken)) (search needs) in
-    rw (c .stopped3 .ensures, c .before .lowest .ensures)
+    let r = row-found _ _ _ (over t) (omega (arith, m .before .if5 .taken)) (search needs) in
+    rw (c .stopped3 .ensures, m .lowest .ensures)
     (stop-accepted (l .inv .vain) (moved j .0) (on-top t) (time t) r (omega (arith, l .inv .stands .deep)) (path-is (l .inv .stands) (chosen t .next-place .ensures) (some t)))
 
 loop-less-2 : tie.Need-loop-less-2 Inv-loop μ-loop
@@ -250,6 +269,8 @@ walk-spec =
     mul-here
     array-copy-out-here
     loop-holds
+    mul-ahead
+    array-write-ahead
     stopped-requires
     returns
     sub-d
@@ -259,6 +280,8 @@ walk-spec =
     array-copy-out-here-2
     loop-less
     loop-again
+    mul-ahead-2
+    array-write-ahead-2
     stopped-requires-2
     returns-2
     add-steps
@@ -276,12 +299,14 @@ walk-spec =
     element-copy-out-roots-over
     roots-over-requires
     add-len
-    mul-ahead
-    array-write-ahead
+    mul-ahead-3
+    array-write-ahead-3
     mul-levels
     array-set-from-levels
     onward-requires
     lowest-requires
+    mul-ahead-4
+    array-write-ahead-4
     stopped-requires-3
     returns-3
     loop-less-2
