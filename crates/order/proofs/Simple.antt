@@ -53,7 +53,7 @@ used-mem i (x ∷ p) e = go (λ h. used-mem i p h) (eqb i x) refl e
     go rest true t h = here (eqb→eq i x (rw t tt))
     go rest false t h = there (rest h)
 
-mem-used : (i : ℕ) (p : List ℕ) → i among p → used i p ≡ true
+pub mem-used : (i : ℕ) (p : List ℕ) → i among p → used i p ≡ true
 mem-used i (x ∷ p) (here e) = rw (← e) (rw (T-true (eqb i i) (eqb-refl i)))
 mem-used i (x ∷ p) (there m) = go (eqb i x) (mem-used i p m)
   where

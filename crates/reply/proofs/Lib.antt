@@ -3,6 +3,7 @@ pub mod Exists
 pub mod Faults
 pub mod Laid
 pub mod Least
+pub mod Left
 pub mod Room
 pub mod Says
 pub mod Settled

@@ -1,23 +1,20 @@
 -- Every question has an answer: some answer and some room satisfy what `search` and `paused` promise (`search-some`, `paused-some`), of
 -- whatever numbers. Of a card file: search/proofs/One.antt. That no two do: Unique.antt; what is promised: specs/Answer.antt.
-use mathlib.Core.List.{List, [], List·Memᴰ·not-nil}
+use mathlib.Core.List.{List, []}
 use mathlib.Core.Path.{_≡_, refl}
-use Prim.Native.Nat.{ℕ, _≤_, _<_, zero-le}
+use Prim.Native.Nat.{ℕ, _≤_, _<_}
 use lib.ListN.{length}
 use Rattle.places.specs.Limits.{bundleMost}
 use Rattle.order.specs.Paths.{Places}
-use Rattle.order.specs.Slots.{slotsOf}
 use Rattle.order.specs.Walk.{stack}
-use Rattle.order.proofs.Bound.{after-fits}
-use Rattle.order.proofs.Waiting.{stack-after}
 use Rattle.reply.specs.declared.Answer.{Answer}
 use Rattle.reply.specs.declared.Reply.the-variants as reply
-use Rattle.reply.specs.Answer.{answering, pathShown, Tells, Paused, Searched, Stops, Case, unread, empty, cramped, runs, caseOf, Answered}
+use Rattle.reply.specs.Answer.{answering, pathShown, Paused, Searched, Stops, Case, unread, empty, cramped, runs, caseOf, Answered}
 use Rattle.reply.specs.Laid.{holding}
 use Rattle.reply.specs.Settles.{Reach, Outcome, steps}
 use Rattle.reply.proofs.Exists.{found, settles}
 use Rattle.reply.proofs.Faults.{runs-clear}
-use Rattle.reply.proofs.Laid.{stack-in-slots, laid-holding}
+use Rattle.reply.proofs.Left.{left-searched, left-paused}
 
 -- some answer and some room satisfy P
 pub record Some (P : List ℕ → Answer → Type 0) : Type 0 where
@@ -39,31 +36,15 @@ module _ (g : Places) (w : Reach) (k : ℕ) (before : List ℕ) (some : 0 < g .s
   abbrev o : Outcome
   o = found g w k
 
-  found-tells : Tells g w k (answering o) o
-  found-tells = record { settled = settles g w k some; says = refl }
-
   searched-some : Some (λ after a. Searched g w k before after a)
-  searched-some =
-      record {
-        after = holding (g .size) [] before;
-        answer = answering o;
-        is = record { outcome = o; tells = found-tells; clear = laid-holding (g .size) [] zero-le (λ p m. absurd (List·Memᴰ·not-nil m)) refl };
-      }
+  searched-some = record { after = holding (g .size) [] before; answer = answering o; is = left-searched o (settles g w k some) refl refl }
 
   held-some : Some (λ after a. Paused g w k before after a)
   held-some =
-      let ws : List (List ℕ) = stack g (steps o) in
-      let x = stack-after g some (steps o) in
-      let fits : length ws ≤ slotsOf (g .size) = after-fits g few x in
       record {
-        after = holding (g .size) ws before;
+        after = holding (g .size) (stack g (steps o)) before;
         answer = answering o;
-        is =
-            record {
-              outcome = o;
-              tells = found-tells;
-              holds = record { waiting = ws; order = x; fits = fits; room = laid-holding (g .size) ws fits (stack-in-slots g some few (steps o)) refl };
-            };
+        is = left-paused o (settles g w k some) refl some few refl;
       }
 
 -- ---- in every case

@@ -1,10 +1,10 @@
--- At most one outcome settles a search (`settles-unique`), a budget that covers all paths brings a yes or a no (`covers`), and what a
--- paused run and a search must answer and leave is one answer and one room (`paused-one`, `search-one`). Of a card file:
--- search/proofs/One.antt. That there is one: Exists.antt, Total.antt.
+-- At most one outcome settles a search (`settles-unique`), a budget that covers all paths brings a yes or a no (`covers`), one that does
+-- not never brings a no (`uncovered`), and what a paused run and a search must answer and leave is one answer and one room (`paused-one`,
+-- `search-one`). Of a card file: search/proofs/One.antt. That there is one: Exists.antt, Total.antt.
 use mathlib.Core.List.{List, []}
 use mathlib.Core.Logic.{⊎-elim}
 use mathlib.Core.Path.{_≡_, sym, ap, _∙_}
-use Prim.Native.Nat.{ℕ, _≤_, zero-le}
+use Prim.Native.Nat.{ℕ, _≤_, _<_, zero-le}
 use native.Mathlib.Nat.{le-antisymm}
 use native.Mathlib.Omega.{arith}
 use Rattle.order.specs.Paths.{Places, Count}
@@ -32,6 +32,10 @@ module _ (g : Places) where
     -- a budget that covers all paths is never exhausted
     pub covers : {c : ℕ} → Count g c → c ≤ k → (s : ℕ) → ¬ Settles g w k (exhausted s)
     covers n h s x = let (d, m, l) = x .more in omega (arith, count-unique g n m)
+
+    -- a budget that does not cover all paths is never enough to refuse
+    pub uncovered : {c : ℕ} → Count g c → k < c → (s : ℕ) → ¬ Settles g w k (refused s)
+    uncovered n h s x = omega (arith, count-unique g n (x .all), x .covered)
 
     pub settles-unique : (o u : Outcome) → Settles g w k o → Settles g w k u → o ≡ u
     settles-unique (accepted p r s) (accepted q i t) a b = accepted-unique a b

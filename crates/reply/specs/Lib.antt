@@ -4,3 +4,4 @@ pub mod Room
 pub mod Answer
 pub mod Laid
 pub mod Numbers
+pub mod Records

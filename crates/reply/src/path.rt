@@ -8,6 +8,7 @@ ghost use Rattle.places.specs.Limits.{bundleMost};
 ghost use Rattle.reply.specs.Answer.{pathShown};
 
 // A path's places, the leaf first; places past its length are 0.
+#[repr(C)]
 pub struct Path {
     pub length: u8,
     pub places: [BundlePlace; BundlePlace::MOST],

@@ -13,20 +13,19 @@ use Rattle.order.specs.Paths.{Places}
 use Rattle.order.specs.Slots.{slotsOf}
 use Rattle.order.specs.Waiting.{Waiting}
 use Rattle.order.specs.Walk.{pops, top, tops, stack, paths}
-use Rattle.order.proofs.Bound.{after-fits}
 use Rattle.order.proofs.Stack.{stack-waits}
-use Rattle.order.proofs.Waiting.{waiting-step, waiting-end, stack-taken, stack-after}
+use Rattle.order.proofs.Waiting.{waiting-step, waiting-end, stack-taken}
 use Rattle.order.proofs.Tree.{paths-listing}
 use Rattle.reply.specs.declared.Reply.the-variants as reply
 use Rattle.reply.specs.declared.Answer.{Answer}
-use Rattle.reply.specs.Answer.{pathShown, Tells, Paused, Searched}
+use Rattle.reply.specs.Answer.{pathShown, answering, Paused, Searched}
 use Rattle.steps.specs.declared.walk.End.{End}
 use Rattle.steps.specs.declared.walk.Level.{Level}
 use Rattle.steps.specs.Parts.{waiting, Vain, Ends, Stopped}
 use Rattle.reply.specs.Laid.{holding}
 use Rattle.reply.specs.Settles.{Reach, QualifiesBy, Qualifies, Outcome, accepted, refused, exhausted, Settles, steps}
 use Rattle.steps.proofs.Levels.{Stands, closed, over-all, met}
-use Rattle.reply.proofs.Laid.{stack-in-slots, laid-holding}
+use Rattle.reply.proofs.Left.{stack-fits, left-searched, left-paused}
 use Rattle.reply.proofs.Settled.{Barren, accepts, refuses, exhausts}
 use Rattle.reply.proofs.Says.{by-parts}
 
@@ -126,23 +125,14 @@ module _ (g : Places) (some : 0 < g .size) (w : Reach) where
 module _ {g : Places} (some : 0 < g .size) (few : g .size ≤ bundleMost) {w : Reach} {k : ℕ} {e : End} (S : Stopped g (Settles g w k) ((0 ∷ []) ∷ []) e)
   where
     pub stopped-fits : length (waiting (g .size) (e .ahead) (e .place) (e .depths)) ≤ slotsOf (g .size)
-    stopped-fits = rw (S .left) (after-fits g few (stack-after g some (steps (S .outcome))))
+    stopped-fits = rw (S .left) (stack-fits g some few (steps (S .outcome)))
 
     module _ {a : Answer} (replies : a .reply ≡ e .reply) (shows : a .path ≡ pathShown (take (e .len) (e .place))) where
-      tells : Tells g w k a (S .outcome)
-      tells = record { settled = S .ends; says = by-parts (S .outcome) (replies ∙ S .says) (shows ∙ ap pathShown (S .shows)) }
+      says : a ≡ answering (S .outcome)
+      says = by-parts (S .outcome) (replies ∙ S .says) (shows ∙ ap pathShown (S .shows))
 
       pub stopped-paused : {before after : List ℕ} → after ≡ holding (g .size) (waiting (g .size) (e .ahead) (e .place) (e .depths)) before → Paused g w k before after a
-      stopped-paused q = record {
-        outcome = S .outcome;
-        tells = tells;
-        holds = record {
-          waiting = waiting (g .size) (e .ahead) (e .place) (e .depths);
-          order = rw (S .left) (stack-after g some (steps (S .outcome)));
-          fits = stopped-fits;
-          room = laid-holding (g .size) (waiting (g .size) (e .ahead) (e .place) (e .depths)) stopped-fits (rw (S .left) (stack-in-slots g some few (steps (S .outcome)))) q;
-        };
-      }
+      stopped-paused q = left-paused (S .outcome) (S .ends) says some few (rw (S .left) at q)
 
       pub stopped-searched : {before after : List ℕ} → after ≡ holding (g .size) [] before → Searched g w k before after a
-      stopped-searched q = record { outcome = S .outcome; tells = tells; clear = laid-holding (g .size) [] zero-le (λ p m. absurd (List·Memᴰ·not-nil m)) q }
+      stopped-searched q = left-searched (S .outcome) (S .ends) says q

@@ -1,5 +1,5 @@
 -- The roots by how a path stands are those by what was judged of its certificates, so that the walk by the one settles the search by the
--- other (`settled`, for the proof of `run`). How a path stands: policy/specs/Standing.antt; that it is the same:
+-- other (`settled`, for the proof of `run`; `ends-judged`, for stack). How a path stands: policy/specs/Standing.antt; that it is the same:
 -- policy/proofs/Qualifying.antt.
 use mathlib.Core.Bool.{Bool, true, false, _&&_, false≢true}
 use mathlib.Core.List.{List, [], _∷_}
@@ -17,7 +17,7 @@ use Rattle.policy.proofs.Qualifying.{roots-qualify}
 use Rattle.steps.specs.declared.walk.End.{End}
 use Rattle.question.specs.Question.{placesBy, rootsBy}
 use Rattle.steps.specs.Parts.{rootsSeated, Ends, Stopped}
-use Rattle.reply.specs.Settles.{Reach, QualifiesBy, Settles}
+use Rattle.reply.specs.Settles.{Reach, QualifiesBy, Outcome, Settles}
 use Rattle.reply.proofs.Agree.{settles-agree}
 use Rattle.steps.proofs.Ends.{ends-settles}
 
@@ -48,12 +48,15 @@ module _ (judged : Judged) (n : ℕ) (some : 1 ≤ n) (few : n ≤ bundleMost) (
   from : (p : List ℕ) (r : ℕ) → Simple places p → QualifiesBy (rootsBy judged) p r → QualifiesBy seated-roots p r
   from p r s (h, e) = (omega arith, good-same p r s ∙ rw (lt-ltb r rootsMost h, e))
 
+  pub ends-judged : (k : ℕ) (o : Outcome) → Ends places seated-roots k ((0 ∷ []) ∷ []) o → Settles places (rootsBy judged) k o
+  ends-judged k o e = settles-agree to from k o (ends-settles places some seated-roots k o e)
+
   pub settled : {k : ℕ} {e : End}
       → Stopped places (Ends places seated-roots k ((0 ∷ []) ∷ [])) ((0 ∷ []) ∷ []) e
       → Stopped places (Settles places (rootsBy judged) k) ((0 ∷ []) ∷ []) e
   settled {k} S = record {
     outcome = S .outcome;
-    ends = settles-agree to from k (S .outcome) (ends-settles places some seated-roots k (S .outcome) (S .ends));
+    ends = ends-judged k (S .outcome) (S .ends);
     says = S .says;
     short = S .short;
     long = S .long;

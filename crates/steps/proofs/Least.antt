@@ -15,7 +15,7 @@ use Rattle.steps.specs.Parts.{rootsSeated}
 use Rattle.reply.specs.Settles.{QualifiesBy, Qualifies}
 
 -- a row that is not empty has its lowest place
-lowest-place : (row : ℕ) → 0 < row → row < 2 ^ 64 → lowest row < 64
+pub lowest-place : (row : ℕ) → 0 < row → row < 2 ^ 64 → lowest row < 64
 lowest-place row h f =
     let q : highest row < 64 = highest-place row h f in
     let l : ¬ (64 ≤ lowest row) = λ l. false≢true (sym (lowest-least row .below (highest row) (omega arith) (omega arith)) ∙ highest-has row q) in

@@ -46,16 +46,16 @@ offered-none (suc n) row p h = rw (h n) (offered-none n row p h)
 offered-zero : (n : ℕ) {row : ℕ} (p : List ℕ) → row ≡ 0 → offered n row p ≡ []
 offered-zero n {row} p z = offered-none n row p (λ j. ap (has j) z ∙ has-none j)
 
-offered-kids : (g : Places) (row : ℕ) (p : List ℕ) → ((j : ℕ) → j < g .size → has j row ≡ not (used j p) && g .issued j (last 0 p))
+pub offered-kids : (g : Places) (row : ℕ) (p : List ℕ) → ((j : ℕ) → j < g .size → has j row ≡ not (used j p) && g .issued j (last 0 p))
     → offered (g .size) row p ≡ kids g p
 unfolding offered kids next
 offered-kids g row p h = ap (map (snoc p)) (keep-same (λ j. has j row) (λ j. not (used j p) && g .issued j (last 0 p)) (g .size) h)
 
-and-yes : (t : Bool) → t && true ≡ t
+pub and-yes : (t : Bool) → t && true ≡ t
 and-yes true = refl
 and-yes false = refl
 
-and-no : (t : Bool) → t && false ≡ false
+pub and-no : (t : Bool) → t && false ≡ false
 and-no true = refl
 and-no false = refl
 
@@ -218,7 +218,7 @@ module _ {g : Places} {seats : List ℕ} {st : List (List ℕ)} {ahead : List �
 
 -- ---- the highest place is taken
 
-but-either : (x y z : Bool) → (x && not y) && not z ≡ x && not (y || z)
+pub but-either : (x y z : Bool) → (x && not y) && not z ≡ x && not (y || z)
 but-either true true z = refl
 but-either true false z = refl
 but-either false y z = refl

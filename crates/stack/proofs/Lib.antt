@@ -1,0 +1,17 @@
+pub mod Again
+pub mod Agree
+pub mod Bytes
+pub mod Clearing
+pub mod Frauds
+pub mod Held
+pub mod Here
+pub mod Local
+pub mod Look
+pub mod Moved
+pub mod Ran
+pub mod Rows
+pub mod Shown
+pub mod Spread
+pub mod Taken
+pub mod Turns
+pub mod Whole

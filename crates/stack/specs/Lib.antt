@@ -1,0 +1,4 @@
+pub mod Stacked
+pub mod States
+pub mod Stands
+pub mod Begins
