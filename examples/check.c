@@ -1,5 +1,6 @@
 /* check CARD: asks the library about a card file, and prints what the file asks where it can be read, the reply in words, the paths
-   that wait after the first step where there is a search, and whether one name written in two ways is the same name. */
+   that wait after the first step where there is a search, and whether one name written in two ways is the same name. It lends the search
+   bytes and the paused run records; check.rs lends both bytes. */
 #include <inttypes.h>
 #include <stdio.h>
 
@@ -49,13 +50,13 @@ static void print_answer(savuneco_answer answer)
     printf("\n");
 }
 
-/* A slot that is not used has length 0. */
-static void print_waiting(const uint8_t *room)
+/* A record that is not used has length 0. */
+static void print_waiting(const savuneco_path *records)
 {
     printf("after the first step these paths wait, the next one last:");
-    for (size_t at = 0; at < SAVUNECO_ROOM && room[at] != 0; at += SAVUNECO_SLOT) {
+    for (size_t i = 0; i < SAVUNECO_RECORDS && records[i].length != 0; i++) {
         printf(" [");
-        print_path(room + at + 1, room[at]);
+        print_path(records[i].places, records[i].length);
         printf(" ]");
     }
     printf("\n");
@@ -74,7 +75,8 @@ static void print_names(void)
 
 int main(int count, char **words)
 {
-    uint8_t room[SAVUNECO_ROOM] = { 0 };
+    uint8_t room[SAVUNECO_ROOM];
+    savuneco_path records[SAVUNECO_RECORDS] = { 0 };
     FILE *card = count == 2 ? fopen(words[1], "rb") : NULL;
     if (card == NULL) {
         fprintf(stderr, "check: give a card file that can be read\n");
@@ -90,8 +92,8 @@ int main(int count, char **words)
     if (asked.number == 0)
         print_task(asked);
     print_answer(savuneco_search(file, len, room, sizeof room));
-    if (savuneco_paused(file, len, 1, room, sizeof room).number <= SAVUNECO_EXHAUSTED)
-        print_waiting(room);
+    if (savuneco_paused_records(file, len, 1, records, SAVUNECO_RECORDS).number <= SAVUNECO_EXHAUSTED)
+        print_waiting(records);
     print_names();
     return 0;
 }

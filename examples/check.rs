@@ -6,8 +6,9 @@ use std::io::Write;
 
 /// The library as safe Rust: a slice is valid for its length, and a `&mut` one overlaps nothing, so every call keeps what the header asks.
 mod savuneco {
-    pub const SLOT: usize = 17;
-    pub const ROOM: usize = 106 * SLOT;
+    pub const PLACES: usize = 24;
+    pub const SLOT: usize = 1 + PLACES;
+    pub const ROOM: usize = 254 * SLOT;
     pub const EXHAUSTED: u8 = 2;
 
     #[repr(C)]
@@ -27,7 +28,7 @@ mod savuneco {
         pub number: u8,
         pub root: u8,
         pub length: u8,
-        pub path: [u8; 16],
+        pub path: [u8; PLACES],
     }
 
     #[link(name = "desk", kind = "static")]

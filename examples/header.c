@@ -1,17 +1,22 @@
-/* Tests include/savuneco.h against the library: the layout of what is returned, the reply numbers, the room, NULL with length 0, and
-   each function with answers that the card-file paper gives. Prints what differs, and a last line that says how many were asked. */
+/* Tests include/savuneco.h against the library: the layout of what is returned and lent, the reply numbers, the room and the records,
+   NULL with length 0, and each function with answers that the card-file paper gives. Prints what differs, and a last line that says
+   how many were asked. */
 #include <stddef.h>
 #include <stdio.h>
 #include <string.h>
 
 #include "savuneco.h"
 
-_Static_assert(sizeof(savuneco_answer) == 32, "an answer takes 32 bytes");
+_Static_assert(sizeof(savuneco_answer) == 40, "an answer takes 40 bytes");
 _Static_assert(offsetof(savuneco_answer, steps) == 0, "steps");
 _Static_assert(offsetof(savuneco_answer, number) == 8, "number");
 _Static_assert(offsetof(savuneco_answer, root) == 9, "root");
 _Static_assert(offsetof(savuneco_answer, length) == 10, "length");
 _Static_assert(offsetof(savuneco_answer, path) == 11, "path");
+_Static_assert(sizeof(savuneco_path) == SAVUNECO_SLOT, "a record takes as many bytes as a slot");
+_Static_assert(_Alignof(savuneco_path) == 1, "records lie as slots do");
+_Static_assert(offsetof(savuneco_path, length) == 0, "length");
+_Static_assert(offsetof(savuneco_path, places) == 1, "places");
 _Static_assert(sizeof(savuneco_asked) == 40, "what is asked takes 40 bytes");
 _Static_assert(offsetof(savuneco_asked, now) == 0, "now");
 _Static_assert(offsetof(savuneco_asked, budget) == 8, "budget");
@@ -86,7 +91,8 @@ static savuneco_answer ask(size_t len, size_t room_len)
     return savuneco_search(card, len, room, room_len);
 }
 
-static const uint8_t none[SAVUNECO_PLACES], sevens[SAVUNECO_SLOT] = { 7, 7, 7, 7, 7, 7, 7, 7, 7, 7, 7, 7, 7, 7, 7, 7, 7 };
+static const uint8_t none[SAVUNECO_PLACES];
+static uint8_t sevens[SAVUNECO_SLOT];
 
 /* a reply with no path: number and steps, and from 3 up the room is as it was */
 static void replies(const char *what, savuneco_answer answer, uint8_t number, uint64_t steps)
@@ -113,8 +119,8 @@ static void the_search(void)
     bytes_are("accepted: path", answer.path, path, sizeof path);
     bytes_are("two slots are cleared", room, zeros, sizeof zeros);
     bytes_are("the third is not", room + sizeof zeros, sevens, sizeof sevens);
-    is("two slots suffice", ask(card_len, 34).number, SAVUNECO_ACCEPTED);
-    replies("two slots but for a byte", ask(card_len, 33), SAVUNECO_NO_ROOM, 0);
+    is("two slots suffice", ask(card_len, 2 * SAVUNECO_SLOT).number, SAVUNECO_ACCEPTED);
+    replies("two slots but for a byte", ask(card_len, 2 * SAVUNECO_SLOT - 1), SAVUNECO_NO_ROOM, 0);
     replies("a byte is missing", ask(card_len - 1, sizeof room), SAVUNECO_CUT_SHORT, 0);
     replies("a byte too many", ask(card_len + 1, sizeof room), SAVUNECO_LEFT_OVER, 0);
     replies("65,536 bytes", ask(65536, sizeof room), SAVUNECO_TOO_LONG, 0);
@@ -126,8 +132,8 @@ static void the_search(void)
     replies("root 1 did not sign", ask(card_len, sizeof room), SAVUNECO_REFUSED, 3);
     card[verdicts_at] = 2;
     replies("verdict 2", ask(card_len, sizeof room), SAVUNECO_BAD_VALUE, 0);
-    card[1] = 33;
-    replies("33 roots", ask(card_len, sizeof room), SAVUNECO_BAD_COUNT, 0);
+    card[1] = 65;
+    replies("65 roots", ask(card_len, sizeof room), SAVUNECO_BAD_COUNT, 0);
     card[0] = 2;
     replies("edition 2", ask(card_len, sizeof room), SAVUNECO_UNKNOWN_EDITION, 0);
     memset(card, 0, 24);
@@ -168,8 +174,8 @@ static void the_task(void)
     unread("task: 65,536 bytes", 65536, SAVUNECO_TOO_LONG);
     card[verdicts_at] = 2;
     unread("task: verdict 2", card_len, SAVUNECO_BAD_VALUE);
-    card[1] = 33;
-    unread("task: 33 roots", card_len, SAVUNECO_BAD_COUNT);
+    card[1] = 65;
+    unread("task: 65 roots", card_len, SAVUNECO_BAD_COUNT);
     card[0] = 2;
     unread("task: edition 2", card_len, SAVUNECO_UNKNOWN_EDITION);
     memset(card, 0, 24);
@@ -195,6 +201,51 @@ static void the_paused_run(void)
     answer = savuneco_paused(card, card_len, (uint64_t)1 << 32, room, sizeof room);
     is("paused after 2^32", answer.number, SAVUNECO_ACCEPTED);
     is("paused after 2^32: steps", answer.steps, 3);
+}
+
+static savuneco_path records[SAVUNECO_RECORDS];
+
+/* an answer by records, all of them 7s before, is the one by bytes, and they are left as the slots are */
+static void as_by_bytes(const char *what, savuneco_answer answer, savuneco_answer must)
+{
+    is(what, answer.number, must.number);
+    is(what, answer.steps, must.steps);
+    is(what, answer.root, must.root);
+    is(what, answer.length, must.length);
+    bytes_are(what, answer.path, must.path, sizeof must.path);
+    bytes_are(what, records, room, sizeof records);
+}
+
+static void searched(const char *what, size_t len, size_t count)
+{
+    savuneco_answer must = ask(len, count * SAVUNECO_SLOT);
+    memset(records, 7, sizeof records);
+    as_by_bytes(what, savuneco_search_records(card, len, records, count), must);
+}
+
+static void waited(const char *what, uint64_t k, size_t count)
+{
+    memset(room, 7, sizeof room);
+    savuneco_answer must = savuneco_paused(card, card_len, k, room, count * SAVUNECO_SLOT);
+    memset(records, 7, sizeof records);
+    as_by_bytes(what, savuneco_paused_records(card, card_len, k, records, count), must);
+}
+
+static void the_records(void)
+{
+    make_card();
+    searched("records: accepted", card_len, SAVUNECO_RECORDS);
+    searched("two records suffice", card_len, 2);
+    searched("one record does not", card_len, 1);
+    searched("records: a byte is missing", card_len - 1, SAVUNECO_RECORDS);
+    waited("records: paused after 0", 0, SAVUNECO_RECORDS);
+    waited("records: paused after 1", 1, SAVUNECO_RECORDS);
+    is("[0,1] waits in record 0", records[0].places[1], 1);
+    is("[0,2] waits in record 1", records[1].places[1], 2);
+    is("both have two places", records[0].length == 2 && records[1].length == 2, 1);
+    is("the third record is kept", records[2].length, 7);
+    waited("records: paused after 2^32", (uint64_t)1 << 32, 2);
+    waited("records: paused in one", 1, 1);
 }
 
 /* ---- the leaves */
@@ -263,10 +314,11 @@ static void key_ids(void)
 
 static void slots(void)
 {
-    static const uint8_t table[] = { 0, 1, 1, 2, 4, 7, 11, 16, 22, 29, 37, 46, 56, 67, 79, 92, 106 };
+    static const uint8_t table[] = { 0, 1, 1, 2, 4, 7, 11, 16, 22, 29, 37, 46, 56, 67, 79, 92, 106, 121, 137, 154, 172, 191, 211, 232, 254 };
     for (unsigned n = 0; n < 256; n++)
         is("slots", savuneco_slots((uint8_t)n), n < sizeof table ? table[n] : 0);
-    is("the room that suffices", SAVUNECO_ROOM, (uint64_t)savuneco_slots(16) * SAVUNECO_SLOT);
+    is("the records that suffice", SAVUNECO_RECORDS, savuneco_slots(SAVUNECO_PLACES));
+    is("the room that suffices", SAVUNECO_ROOM, SAVUNECO_RECORDS * SAVUNECO_SLOT);
 }
 
 static void null_with_length_0(void)
@@ -278,6 +330,10 @@ static void null_with_length_0(void)
     make_card();
     replies("no room", savuneco_search(card, card_len, NULL, 0), SAVUNECO_NO_ROOM, 0);
     replies("no room, paused", savuneco_paused(card, card_len, 1, NULL, 0), SAVUNECO_NO_ROOM, 0);
+    replies("no file, records", savuneco_search_records(NULL, 0, records, SAVUNECO_RECORDS), SAVUNECO_CUT_SHORT, 0);
+    replies("no file, records, paused", savuneco_paused_records(NULL, 0, 1, records, SAVUNECO_RECORDS), SAVUNECO_CUT_SHORT, 0);
+    replies("no records", savuneco_search_records(card, card_len, NULL, 0), SAVUNECO_NO_ROOM, 0);
+    replies("no records, paused", savuneco_paused_records(card, card_len, 1, NULL, 0), SAVUNECO_NO_ROOM, 0);
     savuneco_normal form = savuneco_normalize(NULL, 0, NULL, 0);
     is("normal form of nothing", form.number, 0);
     is("normal form of nothing: length", form.length, 0);
@@ -295,9 +351,11 @@ static void null_with_length_0(void)
 
 int main(void)
 {
+    memset(sevens, 7, sizeof sevens);
     the_search();
     the_task();
     the_paused_run();
+    the_records();
     texts();
     relations();
     key_ids();

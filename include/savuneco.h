@@ -4,17 +4,18 @@
    What each one answers is said here in words, and proved of the code in the words of crates/desk/src; docs/CARD-FILE.md has the
    card file byte by byte, the policy and the order of paths.
 
-   Slices. Bytes are handed over as a pointer and then their number. The caller keeps three things:
-   - each pointer is valid for its number of bytes until the function returns; NULL is allowed where the number is 0, and only there;
-   - what is lent to be written (room, out) overlaps nothing else that is handed over in that call, and nobody else reads or
+   Slices. Bytes, and records, are handed over as a pointer and then their number. The caller keeps three things:
+   - each pointer is valid for its number of them until the function returns; NULL is allowed where the number is 0, and only there;
+   - what is lent to be written (room, records, out) overlaps nothing else that is handed over in that call, and nobody else reads or
      writes it until the function returns; what is only read may overlap other bytes that are only read;
    - nobody writes what is only read until the function returns.
 
    Flags (normalise, has_..) are 0 for no and anything else for yes.
 
-   The library keeps nothing between calls, so threads may call it at the same time. It asks for no memory but the stack's (the search
-   took less than 40,000 bytes of it where it was measured, on x86-64), and calls nothing but memcpy and memset. The stack must be
-   aligned at a call as the platform's calling convention says: on x86-64 to 16 bytes. */
+   The library keeps nothing between calls, so threads may call it at the same time. It asks for no memory but the stack's (where
+   that was measured, on x86-64, search and paused run took about 5,200 bytes of it with lent bytes, and about 8,200 with lent
+   records), and calls nothing but memcpy and memset. The stack must be aligned at a call as the platform's calling convention says: on
+   x86-64 to 16 bytes. */
 #ifndef SAVUNECO_H
 #define SAVUNECO_H
 
@@ -28,12 +29,12 @@ extern "C" {
 /* The version of what this header declares. Where it changes,
    - a new PATCH changes no declaration and no answer;
    - a new MINOR adds functions: all that is declared stays as it is and answers as before;
-   - a new MAJOR changes a declaration or an answer (as savuneco_answer will change when paths have more places): compile against the
-     new header.
+   - a new MAJOR changes a declaration or an answer (at 5.0.0 savuneco_answer grew, from 32 bytes to 40, since a path has more
+     places): compile against the new header.
    A caller holds the major number at build time, by #if or _Static_assert on SAVUNECO_VERSION_MAJOR. The shared object's soname
    carries the same number. */
-#define SAVUNECO_VERSION "4.0.0"
-#define SAVUNECO_VERSION_MAJOR 4
+#define SAVUNECO_VERSION "5.0.0"
+#define SAVUNECO_VERSION_MAJOR 5
 #define SAVUNECO_VERSION_MINOR 0
 #define SAVUNECO_VERSION_PATCH 0
 
@@ -49,13 +50,14 @@ enum {
     SAVUNECO_BAD_COUNT = 7,       /* a count or a length outside its range, or not the one number asked */
     SAVUNECO_BAD_VALUE = 8,       /* a purpose, a verdict, a usage, or a flag without the flag it needs */
     SAVUNECO_LEFT_OVER = 9,       /* bytes after the task */
-    SAVUNECO_NO_ROOM = 10         /* fewer slots were lent than savuneco_slots asks */
+    SAVUNECO_NO_ROOM = 10         /* fewer slots or records were lent than savuneco_slots asks */
 };
 
 enum {
-    SAVUNECO_PLACES = 16, /* a path has at most so many places */
-    SAVUNECO_SLOT = 17,   /* the bytes of a slot: a length, then 16 places */
-    SAVUNECO_ROOM = 1802  /* the bytes that suffice for every file: 106 slots */
+    SAVUNECO_PLACES = 24,  /* a path has at most so many places */
+    SAVUNECO_SLOT = 25,    /* the bytes of a slot: a length, then 24 places */
+    SAVUNECO_ROOM = 6350,  /* the bytes that suffice for every file: 254 slots */
+    SAVUNECO_RECORDS = 254 /* the records that suffice for every file: one for each slot */
 };
 
 /* What a card file asks. */
@@ -65,8 +67,8 @@ typedef struct {
     uint64_t host_at;     /* where the host's bytes begin in the file */
     uint64_t host_length; /* how many bytes the host has, 0 to 253; 0 where no host is asked */
     uint8_t number;       /* 0 where the file can be read, else 4 to 9 */
-    uint8_t roots;        /* how many roots there are, 0 to 32 */
-    uint8_t certificates; /* how many certificates the bundle has, 0 to 16 */
+    uint8_t roots;        /* how many roots there are, 0 to 64 */
+    uint8_t certificates; /* how many certificates the bundle has, 0 to 24 */
 } savuneco_asked;
 
 /* What the file asks, so that a caller sees it before it believes an answer; nothing is searched. The host is the last part of a
@@ -89,7 +91,7 @@ typedef struct {
    can't be read gets 4 to 9, and an empty bundle 3. A file with an empty host asks for none, and no name is then compared with one:
    savuneco_task tells what a file asks. To take fewer steps than the file's own budget allows, call savuneco_paused.
 
-   The room is used as slots of 17 bytes; savuneco_slots says how many are needed, and with fewer whole slots the reply is 10.
+   The room is used as slots of 25 bytes; savuneco_slots says how many are needed, and with fewer whole slots the reply is 10.
    After replies 0, 1 and 2 the needed slots are all zero and every other byte of the room is as it was; after every other reply
    the whole room is as it was. */
 savuneco_answer savuneco_search(const uint8_t *file, size_t file_len, uint8_t *room, size_t room_len);
@@ -100,8 +102,23 @@ savuneco_answer savuneco_search(const uint8_t *file, size_t file_len, uint8_t *r
    the places; unused places and slots are zero. */
 savuneco_answer savuneco_paused(const uint8_t *file, size_t file_len, uint64_t k, uint8_t *room, size_t room_len);
 
-/* The slots that a bundle of n certificates needs: 0, 1, 1, 2, 4, 7, 11, 16, 22, 29, 37, 46, 56, 67, 79, 92, 106 for n = 0 to 16,
-   and 0 for every other n, since no file has such a bundle. */
+/* A slot as a record: its bytes are the slot's, in the same order and with none between them. */
+typedef struct {
+    uint8_t length;                  /* how many places the path has; 0 where the record is not used */
+    uint8_t places[SAVUNECO_PLACES]; /* places in the bundle, the host's own certificate first; 0 past the length */
+} savuneco_path;
+
+/* savuneco_search with a record lent for each slot, whatever they hold before: the same answer, and record i is left as slot i would
+   be. savuneco_slots says how many records are needed, and with fewer the reply is 10. After replies 0, 1 and 2 the needed records are
+   all zero and the others as they were; after every other reply all are as they were. */
+savuneco_answer savuneco_search_records(const uint8_t *file, size_t file_len, savuneco_path *records, size_t count);
+
+/* savuneco_paused likewise. After replies 0, 1 and 2 the needed records hold the paths that wait then: the last one to be taken stands
+   in record 0, the next one in the highest record that is used; records that are not used are zero. */
+savuneco_answer savuneco_paused_records(const uint8_t *file, size_t file_len, uint64_t k, savuneco_path *records, size_t count);
+
+/* The slots, or records, that a bundle of n certificates needs: 0, 1, 1, 2, 4, 7, 11, 16, 22, 29, 37, 46, 56, 67, 79, 92, 106, 121, 137,
+   154, 172, 191, 211, 232, 254 for n = 0 to 24, and 0 for every other n, since no file has such a bundle. */
 uint8_t savuneco_slots(uint8_t n);
 
 /* The answer of the normaliser. */

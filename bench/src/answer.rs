@@ -1,5 +1,7 @@
 //! What every version answers, in the form of the library's C face.
 
+use reference::card::MOST_CERTIFICATES;
+
 #[repr(C)]
 #[derive(Debug, Clone, Copy, PartialEq, Eq)]
 pub struct Answer {
@@ -7,12 +9,12 @@ pub struct Answer {
     pub number: u8,
     pub root: u8,
     pub length: u8,
-    pub path: [u8; 16],
+    pub path: [u8; MOST_CERTIFICATES],
 }
 
 impl Answer {
     pub fn accepted(steps: u64, root: u8, places: &[u8]) -> Answer {
-        let mut path = [0; 16];
+        let mut path = [0; MOST_CERTIFICATES];
         path[..places.len()].copy_from_slice(places);
         Answer {
             steps,
@@ -30,7 +32,7 @@ impl Answer {
             number,
             root: 0,
             length: 0,
-            path: [0; 16],
+            path: [0; MOST_CERTIFICATES],
         }
     }
 }

@@ -2,6 +2,8 @@
 
 use crate::answer::Answer;
 use crate::versions::Version;
+use reference::card::MOST_CERTIFICATES;
+use reference::room::{ENOUGH, MOST_SLOTS};
 use std::hint::black_box;
 use std::time::{Duration, Instant};
 
@@ -13,9 +15,6 @@ const PASSED_OVER: usize = 100;
 
 /// The fewest turns that are tried.
 const LEAST_TURNS: usize = 20;
-
-/// Room for the largest bundle.
-const ROOM: usize = 106 * 17;
 
 /// A file that a version is to answer.
 #[derive(Clone, Copy)]
@@ -49,7 +48,7 @@ fn calls(job: Job) -> u64 {
 }
 
 fn turn(job: Job, calls: u64) -> u64 {
-    let mut room = [0; ROOM];
+    let mut room = ENOUGH;
     let start = now();
     for _ in 0..calls {
         black_box((job.version.search)(
@@ -84,14 +83,9 @@ fn now() -> u64 {
     time.seconds as u64 * 1_000_000_000 + time.nanoseconds as u64
 }
 
-/// What all of these versions answer. They must answer alike, and leave the lent room alike.
+/// What all of these versions answer. They must answer alike, and leave the lent room alike, slot by slot.
 pub fn agreed(file: &[u8], versions: &[&Version]) -> Answer {
-    let tell = |version: &&Version| {
-        // lent full of sevens, with a part slot at the end
-        let mut room = [7; ROOM + 5];
-        ((version.search)(file, &mut room), room)
-    };
-    let told: Vec<(Answer, [u8; ROOM + 5])> = versions.iter().map(tell).collect();
+    let told: Vec<(Answer, Room)> = versions.iter().map(|each| tell(file, each)).collect();
     for (version, this) in versions.iter().zip(&told) {
         assert!(
             *this == told[0],
@@ -103,4 +97,28 @@ pub fn agreed(file: &[u8], versions: &[&Version]) -> Answer {
         );
     }
     told[0].0
+}
+
+/// How a room is left: what each slot holds, and the part slot at the end.
+type Room = (Vec<Option<Vec<u8>>>, Vec<u8>);
+
+/// What a version answers in a room of its own slots that is full of sevens, with a part slot at the end.
+fn tell(file: &[u8], version: &Version) -> (Answer, Room) {
+    let places = version.places();
+    assert!(places <= MOST_CERTIFICATES, "its answer does not fit");
+    let slot = 1 + places;
+    let mut room = vec![7; MOST_SLOTS * slot + 5];
+    let mut answer = (version.search)(file, &mut room);
+    // what stands behind a shorter answer is not its
+    answer.path[places..].fill(0);
+    let slots = room.chunks_exact(slot);
+    let part = slots.remainder().to_vec();
+    (answer, (slots.map(held).collect(), part))
+}
+
+/// What a slot holds, without the zeros at its end; nothing where it is as it was lent.
+fn held(slot: &[u8]) -> Option<Vec<u8>> {
+    let end = slot.iter().rposition(|byte| *byte != 0);
+    let held = &slot[..end.map_or(0, |last| last + 1)];
+    slot.iter().any(|byte| *byte != 7).then(|| held.to_vec())
 }

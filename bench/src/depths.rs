@@ -7,6 +7,7 @@
 use crate::answer::Answer;
 use crate::question::Question;
 use crate::seats::Seats;
+use reference::card::MOST_CERTIFICATES;
 
 fn at<const CHECKED: bool, T: Copy, const LENGTH: usize>(list: &[T; LENGTH], index: usize) -> T {
     if CHECKED {
@@ -16,7 +17,7 @@ fn at<const CHECKED: bool, T: Copy, const LENGTH: usize>(list: &[T; LENGTH], ind
     unsafe { *list.get_unchecked(index) }
 }
 
-fn put<const CHECKED: bool, T>(list: &mut [T; 16], index: usize, value: T) {
+fn put<const CHECKED: bool, T>(list: &mut [T; MOST_CERTIFICATES], index: usize, value: T) {
     if CHECKED {
         list[index] = value;
         return;
@@ -68,15 +69,15 @@ struct Level {
 pub fn walk<const CHECKED: bool>(question: &Question) -> Answer {
     let seats = Seats::of(question);
     let issuers = question.issuers.map(u64::from);
-    let roots = question.roots.map(u64::from);
+    let roots = question.roots;
     let mut here = Level {
         free: (1 << question.size) - 1,
         standing: Standing::BEGUN,
     };
     let mut row: u64 = 1;
-    let mut ahead = [0; 16];
-    let mut levels = [here; 16];
-    let mut path = [0; 16];
+    let mut ahead = [0; MOST_CERTIFICATES];
+    let mut levels = [here; MOST_CERTIFICATES];
+    let mut path = [0; MOST_CERTIFICATES];
     let mut depth = 0;
     let mut steps = 0;
     loop {

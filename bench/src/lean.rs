@@ -3,30 +3,30 @@
 
 use crate::answer::Answer;
 use crate::question::{up_to, Question};
+use reference::card::MOST_CERTIFICATES;
 
 /// What a step asks of its place, each kind by itself, since a number is found faster than a struct of three.
 struct Places {
-    /// As wide as the rows that they meet: those of 16 bits take longer to load.
-    issuers: [u32; 16],
+    issuers: [u32; MOST_CERTIFICATES],
     /// The numbers of certificates that count with which a place stands, as bits.
-    standing: [u32; 16],
+    standing: [u32; MOST_CERTIFICATES],
     /// The numbers, those places counted, that some root lets stand below it.
-    rooted: [u32; 16],
+    rooted: [u32; MOST_CERTIFICATES],
     counted: u32,
 }
 
 impl Places {
     fn of(question: &Question) -> Places {
         Places {
-            issuers: question.issuers.map(u32::from),
+            issuers: question.issuers,
             standing: question.standing(),
             rooted: question.roots.map(|roots| rooted(question, roots)),
-            counted: question.counted.into(),
+            counted: question.counted,
         }
     }
 }
 
-fn rooted(question: &Question, mut roots: u32) -> u32 {
+fn rooted(question: &Question, mut roots: u64) -> u32 {
     let mut numbers = 0;
     while roots != 0 {
         numbers |= up_to(question.root_limits[roots.trailing_zeros() as usize]);
@@ -77,16 +77,16 @@ impl Rows {
 
 /// The rows of the depths before, likewise each kind by itself.
 struct Depths {
-    ahead: [u32; 16],
-    free: [u32; 16],
-    counted: [u32; 16],
+    ahead: [u32; MOST_CERTIFICATES],
+    free: [u32; MOST_CERTIFICATES],
+    counted: [u32; MOST_CERTIFICATES],
 }
 
 impl Depths {
     const NONE: Depths = Depths {
-        ahead: [0; 16],
-        free: [0; 16],
-        counted: [0; 16],
+        ahead: [0; MOST_CERTIFICATES],
+        free: [0; MOST_CERTIFICATES],
+        counted: [0; MOST_CERTIFICATES],
     };
 
     fn keep(&mut self, depth: usize, rows: Rows) {
@@ -108,7 +108,7 @@ pub fn walk(question: &Question) -> Answer {
     let places = Places::of(question);
     let mut rows = Rows::first(question.size);
     let mut before = Depths::NONE;
-    let mut path = [0; 16];
+    let mut path = [0; MOST_CERTIFICATES];
     let mut depth = 0;
     let mut steps = 0;
     loop {

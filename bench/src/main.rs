@@ -1,4 +1,5 @@
 //! `bench [SECONDS]`: times the proved library beside other versions of the same search, so many seconds a row, and prints tables.
+//! `bench stack`: says how much stack the library's searches take.
 
 mod answer;
 mod cards;
@@ -12,6 +13,7 @@ mod packed;
 mod question;
 mod reader;
 mod seats;
+mod stack;
 mod tables;
 mod tuned;
 mod versions;
@@ -19,15 +21,22 @@ mod versions;
 use std::time::Duration;
 
 fn main() {
-    let seconds = match std::env::args().nth(1).map(|word| word.parse()) {
+    let word = std::env::args().nth(1);
+    if word.as_deref() == Some("stack") {
+        return stack::tell();
+    }
+    let seconds = match word.map(|word| word.parse()) {
         None => 2.0,
         Some(Ok(seconds)) => seconds,
         Some(Err(_)) => {
-            eprintln!("usage: bench [SECONDS]");
+            eprintln!("usage: bench [SECONDS | stack]");
             std::process::exit(2);
         }
     };
-    let lasting = Duration::from_secs_f64(seconds);
+    time(Duration::from_secs_f64(seconds));
+}
+
+fn time(lasting: Duration) {
     println!(
         "Whole answers: the time of {}, and its ratio to the others\n",
         versions::LIBRARY.name

@@ -1,12 +1,13 @@
-//! Ordinary Rust: a stack of paths of up to 16 places, and a scan of the path for each candidate.
+//! Ordinary Rust: a stack of paths in arrays of places, and a scan of the path for each candidate.
 
 use crate::answer::Answer;
 use crate::question::Question;
+use reference::card::MOST_CERTIFICATES;
 
 #[derive(Clone, Copy)]
 struct Path {
     length: usize,
-    places: [u8; 16],
+    places: [u8; MOST_CERTIFICATES],
 }
 
 impl Path {
@@ -24,7 +25,7 @@ impl Path {
 pub fn walk(question: &Question) -> Answer {
     let leaf = Path {
         length: 1,
-        places: [0; 16],
+        places: [0; MOST_CERTIFICATES],
     };
     let mut stack = vec![leaf];
     let mut steps = 0;

@@ -1,21 +1,22 @@
 //! What a card asks of the search, worked out once: who issued whom as rows of bits, and what each certificate may stand for.
 
 use crate::reader::{Card, Record};
+use reference::card::{MOST_CERTIFICATES, MOST_ROOTS};
 
 pub struct Question {
     pub size: usize,
     pub budget: u64,
     /// For each place the places of the bundle that issued it.
-    pub issuers: [u16; 16],
+    pub issuers: [u32; MOST_CERTIFICATES],
     /// For each place the roots that issued it and may stand above some path.
-    pub roots: [u32; 16],
+    pub roots: [u64; MOST_CERTIFICATES],
     /// The places that may stand between leaf and root, where their path length allows.
-    pub between: u16,
+    pub between: u32,
     /// Of those the ones that path lengths count: they are not self-issued. The leaf never counts.
-    pub counted: u16,
+    pub counted: u32,
     /// How many certificates that count each place, and each root, lets stand between it and the leaf.
-    pub place_limits: [u8; 16],
-    pub root_limits: [u8; 32],
+    pub place_limits: [u8; MOST_CERTIFICATES],
+    pub root_limits: [u8; MOST_ROOTS],
 }
 
 impl Question {
@@ -24,12 +25,12 @@ impl Question {
         let mut question = Question {
             size: bundle.len(),
             budget: card.budget,
-            issuers: [0; 16],
-            roots: [0; 16],
+            issuers: [0; MOST_CERTIFICATES],
+            roots: [0; MOST_CERTIFICATES],
             between: 0,
             counted: 0,
-            place_limits: [0; 16],
-            root_limits: [0; 32],
+            place_limits: [0; MOST_CERTIFICATES],
+            root_limits: [0; MOST_ROOTS],
         };
         question.judge(card);
         let mut rows = card.verdicts.chunks_exact(bundle.len());
@@ -51,9 +52,9 @@ impl Question {
         for (place, cert) in card.bundle.all().iter().enumerate() {
             self.place_limits[place] = cert.path_length;
             let sound = in_date(cert, card.now) && well_formed(cert) && authority(cert);
-            self.between |= u16::from(sound) << place;
+            self.between |= u32::from(sound) << place;
             let counts = place > 0 && sound && !same_name(cert.issuer, cert.subject);
-            self.counted |= u16::from(counts) << place;
+            self.counted |= u32::from(counts) << place;
         }
         for (place, root) in card.roots.all().iter().enumerate() {
             self.root_limits[place] = root.path_length;
@@ -106,10 +107,10 @@ impl Question {
 
     /// For each place the numbers with which it stands, as bits: so a number is one bit, and gone where it meets a place that does not stand.
     /// The leaf stands with nothing before it.
-    pub fn standing(&self) -> [u32; 16] {
-        let mut standing = [0; 16];
+    pub fn standing(&self) -> [u32; MOST_CERTIFICATES] {
+        let mut standing = [0; MOST_CERTIFICATES];
         for (place, numbers) in standing[..self.size].iter_mut().enumerate() {
-            let sound = u32::from(self.between >> place & 1);
+            let sound = self.between >> place & 1;
             *numbers = sound * up_to(self.place_limits[place]);
         }
         standing[0] = 1;
@@ -117,13 +118,13 @@ impl Question {
     }
 }
 
-/// The numbers up to a limit as bits; no path has more than 15.
+/// The numbers up to a limit as bits; in no path do more count than come after the leaf.
 pub fn up_to(limit: u8) -> u32 {
-    (2 << limit.min(15)) - 1
+    (2 << limit.min(MOST_CERTIFICATES as u8 - 1)) - 1
 }
 
 /// Sets the bit of an issuer's place in the row of each certificate that it issued.
-fn fill<Row>(rows: &mut [Row; 16], signed: &[u8], issuer: &Record, place: usize, of: &[Record])
+fn fill<Row>(rows: &mut [Row], signed: &[u8], issuer: &Record, place: usize, of: &[Record])
 where
     Row: Copy + From<bool> + std::ops::BitOrAssign + std::ops::Shl<usize, Output = Row>,
 {
@@ -221,7 +222,7 @@ fn authority(cert: &Record) -> bool {
 }
 
 /// The roots that may stand above, of those that issued any: none where the leaf is not sound.
-fn above(card: &Card, asked: u32) -> u32 {
+fn above(card: &Card, asked: u64) -> u64 {
     let leaf = &card.bundle.all()[0];
     if !(in_date(leaf, card.now) && well_formed(leaf) && serves(leaf) && named(leaf, card.host)) {
         return 0;
@@ -230,7 +231,7 @@ fn above(card: &Card, asked: u32) -> u32 {
     let (mut rest, mut row) = (asked, 0);
     while rest != 0 {
         let place = rest.trailing_zeros();
-        row |= u32::from(sound(&card.roots.all()[place as usize])) << place;
+        row |= u64::from(sound(&card.roots.all()[place as usize])) << place;
         rest &= rest - 1;
     }
     row

@@ -1,5 +1,6 @@
 //! Reads a card file with no allocation: a record is numbers and parts of the file, and a name stays as it is encoded.
 
+use reference::card::{MOST_CERTIFICATES, MOST_ROOTS};
 use std::ops::RangeInclusive;
 
 /// The paper's number of a fault.
@@ -73,8 +74,8 @@ impl<'a, const MOST: usize> Records<'a, MOST> {
 }
 
 pub struct Card<'a> {
-    pub roots: Records<'a, 32>,
-    pub bundle: Records<'a, 16>,
+    pub roots: Records<'a, MOST_ROOTS>,
+    pub bundle: Records<'a, MOST_CERTIFICATES>,
     /// A row for each issuer, the roots first; in each row a byte for each subject.
     pub verdicts: &'a [u8],
     pub now: u64,

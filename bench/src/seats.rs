@@ -1,6 +1,7 @@
 //! Who may stand where in the walks by depths, worked out once from the path lengths.
 
 use crate::question::Question;
+use reference::card::MOST_CERTIFICATES;
 
 /// Three rows for each seat: the roots that may stand above, the places that may come next and count, and those that may and don't. Seat 0
 /// is none, seat 1 is before the leaf, and each after it is above the leaf and one certificate more that counts.
@@ -9,7 +10,7 @@ pub struct Seats {
 }
 
 impl Seats {
-    pub const MOST: usize = 18;
+    pub const MOST: usize = MOST_CERTIFICATES + 2;
     pub const COUNTED: usize = Seats::MOST;
     pub const OTHERS: usize = 2 * Seats::MOST;
     pub const ROWS: usize = 3 * Seats::MOST;
@@ -23,12 +24,7 @@ impl Seats {
         let mut rows = [0; Seats::ROWS];
         let (above, places) = rows.split_at_mut(Seats::COUNTED);
         let (counting, not) = places.split_at_mut(Seats::OTHERS - Seats::COUNTED);
-        fill(
-            &mut above[2..],
-            last,
-            u64::from(roots),
-            &question.root_limits,
-        );
+        fill(&mut above[2..], last, roots, &question.root_limits);
         fill(&mut counting[2..], last, counted, &question.place_limits);
         fill(&mut not[2..], last, others, &question.place_limits);
         counting[1] = 1;

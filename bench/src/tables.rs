@@ -4,23 +4,24 @@ use crate::answer::Answer;
 use crate::clock::{agreed, times, Job};
 use crate::inputs::{self, Alike, Ordinary, Own, HOST};
 use crate::versions::{
-    Version, BEFORE, DEPTHS, LEAN, LIBRARY, ORDINARY, PACKED, TUNED, UNCHECKED, UPSTREAM,
+    Version, BEFORE, DEPTHS, LEAN, LIBRARY, ORDINARY, PACKED, RECORDS, TUNED, UNCHECKED, UPSTREAM,
 };
+use reference::card::{MOST_CERTIFICATES, MOST_ROOTS};
 use std::time::Duration;
 
-const ALL: [&Version; 9] = [
-    &LIBRARY, &BEFORE, &ORDINARY, &UPSTREAM, &TUNED, &PACKED, &DEPTHS, &UNCHECKED, &LEAN,
+const ALL: [&Version; 10] = [
+    &LIBRARY, &BEFORE, &RECORDS, &ORDINARY, &UPSTREAM, &TUNED, &PACKED, &DEPTHS, &UNCHECKED, &LEAN,
 ];
 
 /// Those whose parts are timed too.
 const CLOSE: [&Version; 3] = [&LIBRARY, &BEFORE, &TUNED];
 
 /// Those whose steps are timed: the ones that allocate nothing.
-const WALKS: [&Version; 7] = [
-    &LIBRARY, &BEFORE, &TUNED, &PACKED, &DEPTHS, &UNCHECKED, &LEAN,
+const WALKS: [&Version; 8] = [
+    &LIBRARY, &BEFORE, &RECORDS, &TUNED, &PACKED, &DEPTHS, &UNCHECKED, &LEAN,
 ];
 
-/// The most pairs of names there can be, each the same by normal form only; the first path taken is accepted.
+/// Many pairs of names, each the same by normal form only; the first path taken is accepted.
 const RESPELT: Alike = Alike {
     certificates: 16,
     roots: 32,
@@ -35,6 +36,15 @@ const TURNED: Alike = Alike {
     ..RESPELT
 };
 
+/// The most pairs of names there can be, in either way.
+fn full(of: Alike) -> Alike {
+    Alike {
+        certificates: MOST_CERTIFICATES,
+        roots: MOST_ROOTS,
+        ..of
+    }
+}
+
 /// Whole answers, from the bytes of the file: the library's time, and its ratio to each other version.
 pub fn beside(lasting: Duration) {
     header(&["file", "bytes", "reply", "steps"], &[""], &ALL);
@@ -45,7 +55,9 @@ pub fn beside(lasting: Duration) {
     );
     row("names respelt", &inputs::alike(RESPELT), lasting);
     row("attributes turned", &inputs::alike(TURNED), lasting);
-    row_after("keys renewed", &inputs::renewed(8).file(), lasting);
+    full_row("names respelt, at the limits", RESPELT, lasting);
+    full_row("attributes turned, at the limits", TURNED, lasting);
+    row("keys renewed", &inputs::renewed(8).file(), lasting);
     let mut whole = vec![0.0; ALL.len()];
     for (name, file) in ordinary_files() {
         let times = row(&name, &file, lasting);
@@ -104,13 +116,27 @@ fn row(name: &str, file: &[u8], lasting: Duration) -> Vec<f64> {
     times
 }
 
-/// A row on a file that earlier commits answered otherwise: before is not timed.
-fn row_after(name: &str, file: &[u8], lasting: Duration) {
-    let others = [&ALL[..1], &ALL[2..]].concat();
-    let answer = agreed(file, &others);
-    let mut times = times(&jobs(file, &others), lasting);
-    times.insert(1, f64::NAN);
-    told(name, file, &answer, &times);
+/// A row on the largest file of its kind.
+fn full_row(name: &str, of: Alike, lasting: Duration) {
+    let file = inputs::alike(full(of));
+    let able = able(&ALL);
+    let answer = agreed(&file, &able);
+    let times = times(&jobs(&file, &able), lasting);
+    told(name, &file, &answer, &without_before(times, &ALL));
+}
+
+/// Those that read the largest files: before may have smaller limits.
+fn able<'a>(versions: &[&'a Version]) -> Vec<&'a Version> {
+    let able = |version: &&&Version| version.places() == MOST_CERTIFICATES;
+    versions.iter().filter(able).copied().collect()
+}
+
+/// The times of those that read the largest files, and none for before, the second, where it does not.
+fn without_before(mut times: Vec<f64>, versions: &[&Version]) -> Vec<f64> {
+    if times.len() < versions.len() {
+        times.insert(1, f64::NAN);
+    }
+    times
 }
 
 fn told(name: &str, file: &[u8], answer: &Answer, times: &[f64]) {
@@ -208,23 +234,28 @@ pub fn issuing(lasting: Duration) {
     );
     for certificates in [4, 8, 16] {
         for roots in [1, 8, 32] {
-            let kinds = [
-                (true, Own::Alike),
-                (true, Own::Respelt),
-                (false, Own::Alike),
-            ];
-            let taken = kinds.map(|(signed, own)| {
-                let file = inputs::alike(Alike {
-                    certificates,
-                    roots,
-                    signed,
-                    own,
-                    budget: 0,
-                });
-                let past_reading = difference(&left_over(file.clone()), &file, &CLOSE, lasting);
-                ratios(&past_reading, micros)
-            });
-            println!("| {certificates} | {roots} | {} |", taken.join(" | "));
+            issuing_row(certificates, roots, &CLOSE, lasting);
         }
     }
+    issuing_row(MOST_CERTIFICATES, MOST_ROOTS, &able(&CLOSE), lasting);
+}
+
+fn issuing_row(certificates: usize, roots: usize, versions: &[&Version], lasting: Duration) {
+    let kinds = [
+        (true, Own::Alike),
+        (true, Own::Respelt),
+        (false, Own::Alike),
+    ];
+    let taken = kinds.map(|(signed, own)| {
+        let file = inputs::alike(Alike {
+            certificates,
+            roots,
+            signed,
+            own,
+            budget: 0,
+        });
+        let past_reading = difference(&left_over(file.clone()), &file, versions, lasting);
+        ratios(&without_before(past_reading, &CLOSE), micros)
+    });
+    println!("| {certificates} | {roots} | {} |", taken.join(" | "));
 }

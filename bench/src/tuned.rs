@@ -1,9 +1,8 @@
-//! Tuned Rust: the library's own slots of 17 bytes in the lent room, the places of a path as the bits of a mask, no allocation.
+//! Tuned Rust: the library's own slots in the lent room, the places of a path as the bits of a mask, no allocation.
 
 use crate::answer::Answer;
 use crate::question::Question;
-
-pub const SLOT: usize = 17;
+use reference::room::SLOT;
 
 pub fn walk(question: &Question, slots: &mut [u8]) -> Answer {
     let (slots, _) = slots.as_chunks_mut::<SLOT>();

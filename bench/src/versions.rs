@@ -4,15 +4,22 @@ use crate::answer::Answer;
 use crate::question::Question;
 use crate::reader::Card;
 use crate::{depths, lean, library, ordinary, packed, tuned};
-
-/// The slots needed for a bundle of so many certificates.
-pub const SLOTS: [usize; 17] = [
-    0, 1, 1, 2, 4, 7, 11, 16, 22, 29, 37, 46, 56, 67, 79, 92, 106,
-];
+use reference::card::MOST_CERTIFICATES;
+use reference::room::{SLOT, SLOTS};
 
 pub struct Version {
     pub name: &'static str,
     pub search: fn(&[u8], &mut [u8]) -> Answer,
+}
+
+impl Version {
+    /// The most places of a path, in its answers and in its slots: before may have fewer.
+    pub fn places(&self) -> usize {
+        match self.name == BEFORE.name {
+            true => library::places_before(),
+            false => MOST_CERTIFICATES,
+        }
+    }
 }
 
 pub const LIBRARY: Version = Version {
@@ -24,6 +31,12 @@ pub const LIBRARY: Version = Version {
 pub const BEFORE: Version = Version {
     name: "before",
     search: library::before,
+};
+
+/// The library with records lent in place of bytes.
+pub const RECORDS: Version = Version {
+    name: "records",
+    search: library::search_records,
 };
 
 pub const ORDINARY: Version = Version {
@@ -71,10 +84,10 @@ fn search(file: &[u8], room: &mut [u8], walk: fn(&Question, &mut [u8]) -> Answer
     if size == 0 {
         return Answer::without_path(3, 0);
     }
-    if room.len() / tuned::SLOT < SLOTS[size] {
+    if room.len() / SLOT < SLOTS[size] {
         return Answer::without_path(10, 0);
     }
-    let slots = &mut room[..SLOTS[size] * tuned::SLOT];
+    let slots = &mut room[..SLOTS[size] * SLOT];
     let answer = walk(&Question::of(&card), slots);
     slots.fill(0);
     answer

@@ -20,9 +20,10 @@ mod values;
 mod watch;
 mod wording;
 
-use files::{bounded, make, questions, Call, Made, Question};
+use files::{bounded, make, questions, Call, Lent, Made, Question};
 use library::{by_library, by_reference, room_byte, task_by_library, task_by_reference, Said};
 use random::Random;
+use reference::room::SLOT;
 use std::fs;
 use std::io::{self, Write};
 use std::path::{Path, PathBuf};
@@ -182,7 +183,7 @@ impl Run {
             if library != reference || file.bytes != before {
                 same = false;
                 self.show(title, &before, &called(question));
-                show_both(&library, &reference);
+                show_both(question, &library, &reference);
             }
         }
         same
@@ -246,19 +247,35 @@ impl Run {
 }
 
 fn called(question: &Question) -> String {
-    let room = question.room.len();
+    let lent = match &question.lent {
+        Lent::Room(room) => format!("room of {} bytes", room.len()),
+        Lent::Records(records) => format!("{} records", records.len()),
+    };
     match question.call {
-        Call::Search => format!("search, room of {room} bytes"),
-        Call::Paused(k) => format!("paused at {k}, room of {room} bytes"),
+        Call::Search => format!("search, {lent}"),
+        Call::Paused(k) => format!("paused at {k}, {lent}"),
     }
 }
 
-fn show_both(library: &Said, reference: &Said) {
+/// A byte of the room, or of which record it is one.
+fn spot(lent: &Lent, byte: isize) -> String {
+    let slot = SLOT as isize;
+    match lent {
+        Lent::Room(_) => format!("byte {byte}"),
+        Lent::Records(_) => format!(
+            "record {}, byte {}",
+            byte.div_euclid(slot),
+            byte.rem_euclid(slot)
+        ),
+    }
+}
+
+fn show_both(question: &Question, library: &Said, reference: &Said) {
     println!("  library    {:?}", library.answer);
     println!("  reference  {:?}", reference.answer);
     let both = library.room.iter().zip(&reference.room);
     if let Some((place, (ours, other))) = both.enumerate().find(|(_, (a, b))| a != b) {
-        let place = room_byte(place);
-        println!("  room       byte {place}: library {ours}, reference {other}");
+        let place = spot(&question.lent, room_byte(place));
+        println!("  lent       {place}: library {ours}, reference {other}");
     }
 }

@@ -2,6 +2,7 @@
 
 use crate::draft::{Attribute, Draft, Name};
 use crate::random::Random;
+use reference::card::{MOST_CERTIFICATES, MOST_ROOTS};
 
 /// Where a part is put: to the largest size that is read, or outside its range.
 #[derive(Clone, Copy, PartialEq)]
@@ -91,10 +92,11 @@ fn stretch_name(random: &mut Random, name: &mut Name) {
 fn crowd(random: &mut Random, draft: &mut Draft) {
     let cert = draft.bundle[0].clone();
     let row = draft.verdicts[draft.roots.len()].clone();
+    let beyond = random.pick(&[1, 1, 2, 8]);
     if random.chance(50) {
-        draft.roots.resize(random.pick(&[33, 33, 34, 40]), cert);
+        draft.roots.resize(MOST_ROOTS + beyond, cert);
     } else {
-        draft.bundle.resize(random.pick(&[17, 17, 18, 20]), cert);
+        draft.bundle.resize(MOST_CERTIFICATES + beyond, cert);
     }
     draft.verdicts.resize(draft.certs(), row);
     for row in &mut draft.verdicts {
@@ -123,7 +125,7 @@ pub fn spoil_value(random: &mut Random, draft: &mut Draft) {
     }
 }
 
-/// Adds DNS names until the file has so many bytes; the draft needs a dozen certificates to reach the longest files.
+/// Adds DNS names until the file has so many bytes; the draft has no more, and needs a dozen certificates to reach the longest files.
 pub fn pad(draft: &mut Draft, target: usize) {
     let mut missing = target - draft.bytes().len();
     for place in 0..draft.certs() {

@@ -1,10 +1,12 @@
-//! The files that are compared, and the questions put to each: calls with a budget and lent room.
+//! The files that are compared, and the questions put to each: calls with a budget and with lent room or records.
 
 use crate::draft::Draft;
 use crate::faults::{cut, damage, noise, pad, spoil_value, stretch, Edge};
 use crate::houses::house;
 use crate::random::Random;
-use reference::{paused, reader, room, Reply};
+use reference::card::MOST_CERTIFICATES;
+use reference::room::{Path, ENOUGH, MOST_SLOTS, SLOT};
+use reference::{paused, reader, Reply};
 
 /// Which call is made: the search, or the paused run with its k.
 #[derive(Clone, Copy, PartialEq)]
@@ -13,15 +15,22 @@ pub enum Call {
     Paused(u64),
 }
 
-/// A call and the room that is lent to it.
+/// What is lent for the paths that wait.
+pub enum Lent {
+    Room(Vec<u8>),
+    Records(Vec<Path>),
+}
+
+/// A call and what is lent to it.
 pub struct Question {
     pub call: Call,
-    pub room: Vec<u8>,
+    pub lent: Lent,
 }
 
 /// A file whose search takes a bearable number of steps, also one that misses the path to accept.
 pub struct Made {
     pub bytes: Vec<u8>,
+    pub roots: usize,
     pub bundle: usize,
     /// The file's budget, where it can be read.
     pub budget: Option<u64>,
@@ -82,7 +91,7 @@ fn sound(random: &mut Random) -> Draft {
 
 fn long(random: &mut Random, length: usize) -> Vec<u8> {
     let mut draft = house(random);
-    while draft.certs() < 12 {
+    while draft.certs() < 12 || draft.bytes().len() > length {
         draft = house(random);
     }
     pad(&mut draft, length);
@@ -126,11 +135,14 @@ fn empty(random: &mut Random) -> Vec<u8> {
 
 /// The file as it is, but for a budget that could take more than `most` steps: it is brought down.
 pub fn bounded(mut bytes: Vec<u8>, most: u64) -> Made {
-    let (bundle, budget) = match reader::read(&bytes) {
-        Ok(card) if !card.bundle.is_empty() => (card.bundle.len(), card.task.budget),
+    let (roots, bundle, budget) = match reader::read(&bytes) {
+        Ok(card) if !card.bundle.is_empty() => {
+            (card.roots.len(), card.bundle.len(), card.task.budget)
+        }
         _ => {
             return Made {
-                bundle: bytes.len() % 17,
+                roots: 0,
+                bundle: bytes.len() % (MOST_CERTIFICATES + 1),
                 bytes,
                 budget: None,
                 settled: None,
@@ -145,6 +157,7 @@ pub fn bounded(mut bytes: Vec<u8>, most: u64) -> Made {
     };
     set_budget(&mut bytes, budget);
     Made {
+        roots,
         bundle,
         budget: Some(budget),
         settled: steps_within(&bytes, most),
@@ -155,7 +168,7 @@ pub fn bounded(mut bytes: Vec<u8>, most: u64) -> Made {
 
 /// The steps to a yes or a no, where they are at most `most`.
 fn steps_within(file: &[u8], most: u64) -> Option<u64> {
-    match paused(file, most, &room::ENOUGH).reply {
+    match paused(file, most, &ENOUGH).reply {
         Reply::Accepted { steps, .. } | Reply::Refused { steps } => Some(steps),
         _ => None,
     }
@@ -192,7 +205,7 @@ fn set_budget(file: &mut [u8], budget: u64) {
     file[end - 8..end].copy_from_slice(&budget.to_be_bytes());
 }
 
-/// The search and some paused runs, each with room of its own.
+/// The search and some paused runs, each with room of its own and again with records.
 pub fn questions(random: &mut Random, file: &Made) -> Vec<Question> {
     let mut calls = vec![Call::Search];
     let last = file.settled.unwrap_or(40);
@@ -202,11 +215,12 @@ pub fn questions(random: &mut Random, file: &Made) -> Vec<Question> {
         Some(_) if random.chance(20) => u64::MAX,
         _ => random.next() % (last + 2),
     }));
-    let ask = |call| Question {
-        call,
-        room: lent(random, file.bundle),
+    let ask = |call| {
+        let room = Lent::Room(room(random, file.bundle));
+        let records = Lent::Records(records(random, file.bundle));
+        [room, records].map(|lent| Question { call, lent })
     };
-    calls.into_iter().map(ask).collect()
+    calls.into_iter().flat_map(ask).collect()
 }
 
 /// The slots that the paper's formula asks for.
@@ -217,18 +231,39 @@ pub fn slots(bundle: usize) -> usize {
     }
 }
 
-/// Room of any contents: mostly enough, often by a hair.
-fn lent(random: &mut Random, bundle: usize) -> Vec<u8> {
+/// How many slots are lent: mostly enough, often by a hair.
+fn lent(random: &mut Random, bundle: usize) -> usize {
     let exact = slots(bundle);
-    let count = match random.below(100) {
+    match random.below(100) {
         0..=49 => exact,
         50..=69 => exact + random.within(1..=3),
-        70..=84 => 106,
+        70..=84 => MOST_SLOTS,
         85..=93 => exact.saturating_sub(1),
-        _ => random.within(0..=300),
+        _ => random.within(0..=2 * MOST_SLOTS),
+    }
+}
+
+/// Room of any contents.
+fn room(random: &mut Random, bundle: usize) -> Vec<u8> {
+    let slots = lent(random, bundle);
+    let part = random.pick(&[0, 0, 1, SLOT - 1]);
+    contents(random, slots * SLOT + part)
+}
+
+/// Records of any contents.
+fn records(random: &mut Random, bundle: usize) -> Vec<Path> {
+    let slots = lent(random, bundle);
+    let bytes = contents(random, slots * SLOT);
+    let record = |slot: &[u8]| {
+        let mut record = Path::NONE;
+        record.length = slot[0];
+        record.places.copy_from_slice(&slot[1..]);
+        record
     };
-    let part = random.pick(&[0, 0, 1, 16]);
-    let length = count * 17 + part;
+    bytes.chunks_exact(SLOT).map(record).collect()
+}
+
+fn contents(random: &mut Random, length: usize) -> Vec<u8> {
     match random.below(4) {
         0 => vec![random.pick(&[0, 255]); length],
         _ => random.bytes(length..=length),

@@ -87,9 +87,9 @@ fn cert(random: &mut Random, who: Who, depth: Option<usize>, now: u64, dress: Dr
         _ => vec![0x2A, 0x86, 0x48, 0x86, 0xF7, 0x0D, 1, 1, 11],
     };
     let own_serial = random.chance(90);
-    let serial = serial_of(if own_serial { who.subject } else { 99 }, dress);
+    let serial = serial_of(if own_serial { who.subject } else { 999 }, dress);
     let room = random.pick(&[0, 0, 1, 3, 240]);
-    let path_length = depth.unwrap_or(1).saturating_sub(1) + room;
+    let path_length = (depth.unwrap_or(1).saturating_sub(1) + room).min(255);
     let renewed = random.chance(3);
     let key = |entity: usize, renewed: bool| key_of(entity, renewed, dress);
     Cert {

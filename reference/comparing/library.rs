@@ -1,7 +1,10 @@
 //! The library behind its C face, and what the reference's answers are in that form.
 
-use crate::files::{Call, Question};
-use reference::{paused, reader, search, Reply};
+use crate::files::{Call, Lent, Question};
+use reference::card::MOST_CERTIFICATES;
+use reference::room::{Path, SLOT};
+use reference::{paused, paused_records, reader, search, search_records, Reply};
+use std::mem::{align_of, size_of};
 
 /// `savuneco_answer`.
 #[repr(C)]
@@ -11,7 +14,7 @@ pub struct Answer {
     number: u8,
     root: u8,
     length: u8,
-    path: [u8; 16],
+    path: [u8; MOST_CERTIFICATES],
 }
 
 impl Answer {
@@ -20,7 +23,7 @@ impl Answer {
         number: 0,
         root: 0,
         length: 0,
-        path: [0; 16],
+        path: [0; MOST_CERTIFICATES],
     };
 }
 
@@ -62,6 +65,21 @@ extern "C" {
         room: *mut u8,
         room_len: usize,
     );
+    fn savuneco_search_records(
+        answer: *mut Answer,
+        file: *const u8,
+        file_len: usize,
+        records: *mut Path,
+        count: usize,
+    );
+    fn savuneco_paused_records(
+        answer: *mut Answer,
+        file: *const u8,
+        file_len: usize,
+        k: u64,
+        records: *mut Path,
+        count: usize,
+    );
     fn savuneco_normalize(s: *const u8, len: usize, out: *mut u8, out_len: usize) -> Normal;
     fn savuneco_same_attr(
         a: *const u8,
@@ -86,7 +104,7 @@ extern "C" {
     ) -> u8;
 }
 
-/// What a call answered, and the bytes that it left in the lent room and on both sides of it.
+/// What a call answered, and the bytes that it left in the lent room, or in the lent records one after the other, and on both sides of it.
 #[derive(PartialEq, Eq)]
 pub struct Said {
     pub answer: Answer,
@@ -102,6 +120,14 @@ fn fenced(room: &[u8]) -> Vec<u8> {
 /// The byte of the room that a place in `Said::room` stands for; negative before it.
 pub fn room_byte(place: usize) -> isize {
     place as isize - FENCE as isize
+}
+
+// A record has its bytes in the order of its slot and no others, so that a row of records lies where a room's bytes do.
+const _: () = assert!(size_of::<Path>() == SLOT && align_of::<Path>() == 1);
+
+fn bytes_of(records: &[Path]) -> Vec<u8> {
+    let bytes = |record: &Path| [&[record.length], &record.places[..]].concat();
+    records.iter().flat_map(bytes).collect()
 }
 
 /// The face takes a null pointer for nothing.
@@ -182,45 +208,93 @@ pub fn task_by_reference(file: &[u8]) -> Asked {
 }
 
 pub fn by_library(file: &[u8], question: &Question) -> Said {
-    let mut room = fenced(&question.room);
-    let lent = &mut room[FENCE..FENCE + question.room.len()];
-    let (file_at, mut lent_at) = (pointer(file), lent.as_mut_ptr());
-    if lent.is_empty() {
-        lent_at = std::ptr::null_mut();
-    }
-    let mut answer = Answer::NONE;
-    let (at, file_len, lent_len) = (&mut answer, file.len(), lent.len());
-    // SAFETY: each pointer is valid for its length, and answer and room overlap nothing else that is in use.
-    unsafe {
-        match question.call {
-            Call::Search => savuneco_search(at, file_at, file_len, lent_at, lent_len),
-            Call::Paused(k) => savuneco_paused(at, file_at, file_len, k, lent_at, lent_len),
-        }
+    let mut room = match &question.lent {
+        Lent::Room(room) => fenced(room),
+        Lent::Records(records) => fenced(&bytes_of(records)),
+    };
+    let end = room.len() - FENCE;
+    let lent = &mut room[FENCE..end];
+    let answer = match &question.lent {
+        Lent::Room(_) => with_room(file, question.call, lent),
+        Lent::Records(_) => with_records(file, question.call, lent),
     };
     Said { answer, room }
 }
 
-pub fn by_reference(file: &[u8], question: &Question) -> Said {
-    let said = match question.call {
-        Call::Search => search(file, &question.room),
-        Call::Paused(k) => paused(file, k, &question.room),
+fn pointer_mut(lent: &mut [u8]) -> *mut u8 {
+    match lent {
+        [] => std::ptr::null_mut(),
+        _ => lent.as_mut_ptr(),
+    }
+}
+
+fn with_room(file: &[u8], call: Call, lent: &mut [u8]) -> Answer {
+    let mut answer = Answer::NONE;
+    let (at, file_at, file_len) = (&mut answer, pointer(file), file.len());
+    let (lent_at, lent_len) = (pointer_mut(lent), lent.len());
+    // SAFETY: each pointer is valid for its length, and answer and room overlap nothing else that is in use.
+    unsafe {
+        match call {
+            Call::Search => savuneco_search(at, file_at, file_len, lent_at, lent_len),
+            Call::Paused(k) => savuneco_paused(at, file_at, file_len, k, lent_at, lent_len),
+        }
     };
+    answer
+}
+
+/// The bytes are those of whole records.
+fn with_records(file: &[u8], call: Call, lent: &mut [u8]) -> Answer {
+    let mut answer = Answer::NONE;
+    let (at, file_at, file_len) = (&mut answer, pointer(file), file.len());
+    let (records, count) = (pointer_mut(lent).cast(), lent.len() / SLOT);
+    // SAFETY: as in `with_room`, and a record may have any bytes and any address.
+    unsafe {
+        match call {
+            Call::Search => savuneco_search_records(at, file_at, file_len, records, count),
+            Call::Paused(k) => savuneco_paused_records(at, file_at, file_len, k, records, count),
+        }
+    };
+    answer
+}
+
+pub fn by_reference(file: &[u8], question: &Question) -> Said {
+    let (reply, room) = match &question.lent {
+        Lent::Room(room) => {
+            let said = match question.call {
+                Call::Search => search(file, room),
+                Call::Paused(k) => paused(file, k, room),
+            };
+            (said.reply, said.room)
+        }
+        Lent::Records(records) => {
+            let said = match question.call {
+                Call::Search => search_records(file, records),
+                Call::Paused(k) => paused_records(file, k, records),
+            };
+            (said.reply, bytes_of(&said.room))
+        }
+    };
+    Said {
+        answer: plain(&reply),
+        room: fenced(&room),
+    }
+}
+
+/// A reply as the face tells it.
+fn plain(reply: &Reply) -> Answer {
     let mut answer = Answer {
-        steps: said.reply.steps(),
-        number: said.reply.number(),
+        steps: reply.steps(),
+        number: reply.number(),
         ..Answer::NONE
     };
-    if let Reply::Accepted { root, path, .. } = &said.reply {
+    if let Reply::Accepted { root, path, .. } = reply {
         answer.root = *root as u8;
         answer.length = path.len() as u8;
         for (byte, place) in answer.path.iter_mut().zip(path) {
             *byte = *place as u8;
         }
     }
-    Said {
-        answer,
-        room: fenced(&said.room),
-    }
+    answer
 }
 
 impl Said {
@@ -240,6 +314,6 @@ impl Said {
     pub fn waiting(&self, slots: usize) -> usize {
         let lent = &self.room[FENCE..self.room.len() - FENCE];
         let used = |slot: &&[u8]| slot[0] > 0;
-        lent.chunks_exact(17).take(slots).filter(used).count()
+        lent.chunks_exact(SLOT).take(slots).filter(used).count()
     }
 }

@@ -1,6 +1,7 @@
 //! Who is who in a file: which house each certificate names as its subject and as its issuer, and which verdicts hold.
 
 use crate::random::Random;
+use reference::card::{MOST_CERTIFICATES, MOST_ROOTS};
 
 /// A certificate by the numbers of the houses that it names.
 #[derive(Clone, Copy)]
@@ -43,9 +44,10 @@ pub fn plan(random: &mut Random) -> Plan {
 fn bundle_size(random: &mut Random) -> usize {
     match random.below(100) {
         0..=9 => 1,
-        10..=75 => random.within(2..=6),
-        76..=95 => random.within(7..=15),
-        _ => 16,
+        10..=69 => random.within(2..=6),
+        70..=85 => random.within(7..=16),
+        86..=95 => random.within(17..=MOST_CERTIFICATES),
+        _ => MOST_CERTIFICATES,
     }
 }
 
@@ -53,9 +55,10 @@ fn root_count(random: &mut Random) -> usize {
     match random.below(100) {
         0..=4 => 0,
         5..=44 => 1,
-        45..=79 => random.within(2..=4),
-        80..=95 => random.within(5..=31),
-        _ => 32,
+        45..=74 => random.within(2..=4),
+        75..=85 => random.within(5..=32),
+        86..=95 => random.within(33..=MOST_ROOTS),
+        _ => MOST_ROOTS,
     }
 }
 
@@ -129,8 +132,8 @@ fn links(random: &mut Random, length: usize, renewals: usize) -> Vec<Who> {
 /// n certificates beside a chain of so many houses: some repeat or cross it, the others have nothing to do with it.
 fn strays(random: &mut Random, n: usize, length: usize) -> Vec<Who> {
     let stray = |place: usize| Who {
-        subject: 40 + place,
-        issuer: 60 + place,
+        subject: 100 + place,
+        issuer: 200 + place,
     };
     let mut bundle: Vec<Who> = (0..n).map(stray).collect();
     for who in bundle.iter_mut().skip(1) {
@@ -146,7 +149,7 @@ fn strays(random: &mut Random, n: usize, length: usize) -> Vec<Who> {
 /// Roots of which some are of the chain's top house, and some of a house below it.
 fn tops(random: &mut Random, length: usize) -> Vec<Who> {
     let count = root_count(random).max(1);
-    let mut roots: Vec<Who> = (0..count).map(|place| top(80 + place)).collect();
+    let mut roots: Vec<Who> = (0..count).map(|place| top(300 + place)).collect();
     for root in &mut roots {
         match random.below(10) {
             0..=2 => *root = top(length),
@@ -174,7 +177,7 @@ fn web(random: &mut Random) -> Plan {
         };
         (0..count).map(&mut one).collect::<Vec<Who>>()
     };
-    let (n, r) = (who(16), who(32));
+    let (n, r) = (who(MOST_CERTIFICATES), who(MOST_ROOTS));
     let (bundle, roots) = (bundle_size(random), root_count(random));
     Plan {
         roots: r[..roots].to_vec(),
@@ -192,7 +195,8 @@ fn web(random: &mut Random) -> Plan {
 fn complete(random: &mut Random) -> Plan {
     let n = match random.below(10) {
         0..=7 => random.within(2..=7),
-        _ => random.within(8..=16),
+        8 => random.within(8..=16),
+        _ => random.within(17..=MOST_CERTIFICATES),
     };
     let house = Who {
         subject: 0,
@@ -225,7 +229,7 @@ fn layers(random: &mut Random) -> Plan {
         subject: 0,
         issuer: 1,
     }];
-    let deep = random.within(1..=6);
+    let deep = random.within(1..=9);
     for layer in 1..=deep {
         for _ in 0..random.within(1..=3) {
             let issuer = if random.chance(20) { layer } else { layer + 1 };
@@ -233,7 +237,7 @@ fn layers(random: &mut Random) -> Plan {
             bundle.push(Who { subject, issuer });
         }
     }
-    bundle.truncate(16);
+    bundle.truncate(MOST_CERTIFICATES);
     let issuers = bundle.iter().map(|who| who.issuer);
     let top = issuers.fold(0, usize::max);
     let order = shuffled(random, (1..bundle.len()).collect());

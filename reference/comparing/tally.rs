@@ -1,7 +1,8 @@
 //! What was asked and answered, counted, so that a reader sees what a run has reached.
 
-use crate::files::{slots, Call, Made, Question};
+use crate::files::{slots, Call, Lent, Made, Question};
 use crate::library::Said;
+use reference::room::SLOT;
 use std::collections::BTreeMap;
 use std::fmt;
 
@@ -37,6 +38,7 @@ pub struct Tally {
     bytes: Row,
     tasks: Row,
     searches: Row,
+    roots: Row,
     bundles: Row,
     budgets: Row,
     rooms: Row,
@@ -44,6 +46,8 @@ pub struct Tally {
     ranks: Row,
     paused: Row,
     waiting: Row,
+    records: Row,
+    counts: Row,
     lines: Row,
 }
 
@@ -101,6 +105,7 @@ const BUDGETS: [&str; 7] = [
     "not settled:",
 ];
 const ROOMS: [&str; 4] = ["too small:", "exact:", "exact and a part slot:", "more:"];
+const COUNTS: [&str; 3] = ["too few:", "exact:", "more:"];
 
 impl Tally {
     pub fn new() -> Tally {
@@ -108,6 +113,7 @@ impl Tally {
             bytes: Row::new("bytes of a file", tens),
             tasks: Row::new("tasks", reading),
             searches: Row::new("searches", reply),
+            roots: Row::new("  roots", twos),
             bundles: Row::new("  certificates", of),
             budgets: Row::new("  budget", |key| BUDGETS[key as usize].into()),
             rooms: Row::new("  room", |key| ROOMS[key as usize].into()),
@@ -115,6 +121,8 @@ impl Tally {
             ranks: Row::new("  accepted at step", tens),
             paused: Row::new("paused runs", reply),
             waiting: Row::new("  paths that wait", twos),
+            records: Row::new("both with records", reply),
+            counts: Row::new("  records", |key| COUNTS[key as usize].into()),
             lines: Row::new("terminal's lines", reply),
         }
     }
@@ -132,24 +140,31 @@ impl Tally {
     }
 
     pub fn answered(&mut self, file: &Made, question: &Question, said: &Said) {
-        match question.call {
-            Call::Search => self.searched(file, question, said),
-            Call::Paused(_) => {
+        match (&question.lent, question.call) {
+            (Lent::Room(room), Call::Search) => self.searched(file, room.len(), said),
+            (Lent::Room(_), Call::Paused(_)) => {
                 self.paused.count(said.number().into());
                 if said.number() < 3 {
                     let waiting = said.waiting(slots(file.bundle));
                     self.waiting.count(bits(waiting as u64));
                 }
             }
+            (Lent::Records(records), _) => {
+                self.records.count(said.number().into());
+                if file.budget.is_some() {
+                    let kind = records.len().cmp(&slots(file.bundle));
+                    self.counts.count((kind as i64 + 1) as u64);
+                }
+            }
         }
     }
 
-    fn searched(&mut self, file: &Made, question: &Question, said: &Said) {
+    fn searched(&mut self, file: &Made, room: usize, said: &Said) {
         self.searches.count(said.number().into());
         if let Some(budget) = file.budget {
+            self.roots.count(bits(file.roots as u64));
             self.bundles.count(file.bundle as u64);
-            self.rooms
-                .count(room_kind(question.room.len(), slots(file.bundle)));
+            self.rooms.count(room_kind(room, slots(file.bundle)));
             if said.number() < 3 {
                 self.budgets.count(budget_kind(budget, file.settled));
             }
@@ -174,10 +189,10 @@ fn budget_kind(budget: u64, settled: Option<u64>) -> u64 {
 }
 
 fn room_kind(bytes: usize, slots: usize) -> u64 {
-    match bytes / 17 {
+    match bytes / SLOT {
         lent if lent < slots => 0,
         lent if lent > slots => 3,
-        _ if bytes % 17 == 0 => 1,
+        _ if bytes % SLOT == 0 => 1,
         _ => 2,
     }
 }
@@ -188,6 +203,7 @@ impl fmt::Display for Tally {
             &self.bytes,
             &self.tasks,
             &self.searches,
+            &self.roots,
             &self.bundles,
             &self.budgets,
             &self.rooms,
@@ -195,6 +211,8 @@ impl fmt::Display for Tally {
             &self.ranks,
             &self.paused,
             &self.waiting,
+            &self.records,
+            &self.counts,
             &self.lines,
         ];
         let used = rows.into_iter().filter(|row| !row.counts.is_empty());

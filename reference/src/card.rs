@@ -1,5 +1,10 @@
 //! What a card file holds once it is read. Strings are borrowed from the file.
 
+/// The most roots that a file has.
+pub const MOST_ROOTS: usize = 64;
+/// The most certificates that a bundle has, and so the most places of a path.
+pub const MOST_CERTIFICATES: usize = 24;
+
 pub struct Card<'a> {
     pub roots: Vec<Record<'a>>,
     pub bundle: Vec<Record<'a>>,

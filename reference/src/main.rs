@@ -1,13 +1,16 @@
 //! `reference`: reads a card file from standard input and prints the terminal's line.
 //! `reference paused K`: the line of the paused run, then a line for each waiting path, the bottom one first.
 //! `reference waiting CARD...`: the same of the card files named, each for k = 0, 1, 2, one less than the number of simple paths
-//! and that number, with K:NAME before each run's line. It is how the paused runs of crates/replay were recorded.
+//! and that number, where it is bearable, with K:NAME before each run's line. It is how the paused runs of crates/replay were recorded.
 
 use reference::{paused, reader, room, search, terminal};
 use std::collections::BTreeSet;
 use std::io::{self, Read};
 use std::path::Path;
 use std::process::ExitCode;
+
+/// A file with more simple paths than this is not walked to its end.
+const BEARABLE: u64 = 10_000_000;
 
 const USAGE: &str = "usage: reference [paused K] < card, or reference waiting CARD...";
 
@@ -39,10 +42,12 @@ fn record(cards: &[&str]) -> ExitCode {
 fn print_waiting(card: &Path, file: &[u8]) {
     let name = card.file_name().unwrap_or_default().to_string_lossy();
     let paths = match reader::read(file) {
-        Ok(read) if !read.bundle.is_empty() => search::number_of_paths(&read),
-        _ => 0,
+        Ok(read) if !read.bundle.is_empty() => search::paths_within(&read, BEARABLE),
+        _ => Some(0),
     };
-    for k in BTreeSet::from([0, 1, 2, paths.saturating_sub(1), paths]) {
+    let mut pauses = BTreeSet::from([0, 1, 2]);
+    pauses.extend(paths.iter().flat_map(|n| [n.saturating_sub(1), *n]));
+    for k in pauses {
         print!("{k}:{name} ");
         print_paused(file, k);
     }

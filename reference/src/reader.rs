@@ -2,6 +2,7 @@
 //! as soon as it is read.
 
 use crate::card::{flag, usage, Attribute, Card, Name, Rdn, Record, Task, Verdicts};
+use crate::card::{MOST_CERTIFICATES, MOST_ROOTS};
 use crate::reply::Fault;
 use std::ops::RangeInclusive;
 
@@ -20,8 +21,8 @@ pub fn read(file: &[u8]) -> Read<Card<'_>> {
     if cursor.byte()? != EDITION {
         return Err(Fault::UnknownEdition);
     }
-    let roots = cursor.many(0..=32, Cursor::record)?;
-    let bundle = cursor.many(0..=16, Cursor::record)?;
+    let roots = cursor.many(0..=MOST_ROOTS as u8, Cursor::record)?;
+    let bundle = cursor.many(0..=MOST_CERTIFICATES as u8, Cursor::record)?;
     let verdicts = cursor.verdicts(roots.len(), bundle.len())?;
     let task = cursor.task()?;
     if !cursor.rest.is_empty() {

@@ -25,16 +25,20 @@ pub fn validate(card: &Card, budget: u64) -> (Reply, Vec<Vec<usize>>) {
     (Reply::Refused { steps }, stack)
 }
 
-/// The number of simple paths, found by taking them all. The bundle must not be empty.
-pub fn number_of_paths(card: &Card) -> u64 {
+/// The number of simple paths, found by taking them all, where it is at most `most`: 22 certificates can have more than a u64 counts.
+/// The bundle must not be empty.
+pub fn paths_within(card: &Card, most: u64) -> Option<u64> {
     let issuers = Issuers::of(card);
     let mut stack: Vec<Vec<usize>> = vec![vec![0]];
     let mut number = 0;
     while let Some(path) = stack.pop() {
+        if number == most {
+            return None;
+        }
         number += 1;
         push_extensions(&mut stack, &path, &issuers);
     }
-    number
+    Some(number)
 }
 
 fn last_of(path: &[usize]) -> usize {

@@ -1,18 +1,19 @@
-//! The paper's worked cases: "Cards pulled from the drawer". And path lengths, with self-issued certificates and without.
+//! The paper's worked cases: "Cards pulled from the drawer". And path lengths, with self-issued certificates and without; the limits; and
+//! records lent in place of bytes.
 
-use crate::card::{flag, Attribute, Name, Record, Task};
+use crate::card::{flag, Attribute, Name, Record, Task, MOST_CERTIFICATES, MOST_ROOTS};
 use crate::issuing::self_issued;
 use crate::names::{same_dn, same_rdn};
 use crate::policy;
-use crate::room::{ENOUGH, SLOT, SLOTS};
+use crate::room::{Path, ENOUGH, MOST_SLOTS, SLOT, SLOTS};
 use crate::text::{match_name, normalise};
-use crate::{paused, search, terminal};
+use crate::{paused, paused_records, search, search_records, terminal};
 
 fn line(file: &[u8]) -> String {
     terminal(file).to_string()
 }
 
-/// A record of 26 bytes: no names, no dates, nothing optional.
+/// A record of 28 bytes: no names, no dates, nothing optional.
 fn plain(flags: u8) -> Vec<u8> {
     let mut record = vec![2, flags];
     record.extend([0; 16]);
@@ -227,22 +228,97 @@ fn four_that_issue_each_other() {
 
 #[test]
 fn limits() {
-    assert_eq!(line(&complete(0, 16, 3)), "EXHAUSTED steps 3");
-    assert_eq!(line(&complete(0, 17, 3)), "ERROR 7");
-    let file = complete(0, 16, 1);
-    let room = vec![9; 106 * SLOT];
-    let short = search(&file, &room[..106 * SLOT - 1]);
+    assert_eq!((MOST_CERTIFICATES, MOST_ROOTS), (24, 64));
+    assert_eq!(line(&complete(0, 24, 3)), "EXHAUSTED steps 3");
+    assert_eq!(line(&complete(0, 25, 3)), "ERROR 7");
+    assert_eq!(line(&complete(64, 24, 1)), "ACCEPT steps 1 root 0 path 0");
+    assert_eq!(line(&complete(65, 24, 1)), "ERROR 7");
+}
+
+/// The file whose one path of n places leads, the leaf first, through places 0 to n - 1 to the last of the roots.
+fn chain(roots: usize, bundle: usize) -> Vec<u8> {
+    let mut file = complete(roots, bundle, 1000);
+    let rows = file.len() - 19 - (roots + bundle) * bundle;
+    let mut rows: Vec<&mut [u8]> = file[rows..].chunks_mut(bundle).collect();
+    for (issuer, row) in rows[..roots + bundle].iter_mut().enumerate() {
+        row.fill(0);
+        match issuer.checked_sub(roots) {
+            Some(place) if place > 0 => row[place - 1] = 1,
+            None if issuer + 1 == roots => row[bundle - 1] = 1,
+            _ => {}
+        }
+    }
+    file
+}
+
+#[test]
+fn the_longest_path() {
+    let path: Vec<String> = (0..24).map(|place| place.to_string()).collect();
+    let accepted = format!("ACCEPT steps 24 root 63 path {}", path.join(" "));
+    assert_eq!(line(&chain(64, 24)), accepted);
+    let waits = paused(&chain(64, 24), 23, &ENOUGH).room;
+    let mut slot: Vec<u8> = (0..24).collect();
+    slot.insert(0, 24);
+    assert_eq!(waits[..SLOT], slot);
+    assert_eq!(waits[SLOT..], ENOUGH[SLOT..]);
+}
+
+#[test]
+fn rooms() {
+    assert_eq!((SLOT, MOST_SLOTS), (25, 254));
+    let file = complete(0, 24, 1);
+    let room = vec![9; 6350];
+    let short = search(&file, &room[..6349]);
     assert_eq!(short.reply.number(), 10);
-    assert_eq!(short.room, &room[..106 * SLOT - 1]);
+    assert_eq!(short.room, &room[..6349]);
     let enough = search(&file, &room);
     assert_eq!(enough.reply.number(), 2);
-    assert_eq!(enough.room, [0; 106 * SLOT]);
+    assert_eq!(enough.room, [0; 6350]);
+}
+
+#[test]
+fn records() {
+    let file = complete(0, 24, 1);
+    let nine = Path {
+        length: 9,
+        places: [9; 24],
+    };
+    let lent = [nine; 256];
+    let few = search_records(&file, &lent[..253]);
+    assert_eq!(few.reply.number(), 10);
+    assert_eq!(few.room, [nine; 253]);
+    let enough = search_records(&file, &lent);
+    assert_eq!(enough.reply.number(), 2);
+    assert_eq!(enough.room[..254], [Path::NONE; 254]);
+    assert_eq!(enough.room[254..], [nine; 2]);
+}
+
+#[test]
+fn records_hold_what_the_slots_do() {
+    let bytes = |record: &Path| [&[record.length], &record.places[..]].concat();
+    for file in [complete(0, 24, 0), complete(1, 5, 0), chain(64, 24)] {
+        for k in 0..60 {
+            let by_bytes = paused(&file, k, &ENOUGH);
+            let by_records = paused_records(&file, k, &[Path::NONE; MOST_SLOTS]);
+            assert_eq!(by_records.reply, by_bytes.reply);
+            let same: Vec<Vec<u8>> = by_records.room.iter().map(bytes).collect();
+            assert_eq!(same.concat(), by_bytes.room);
+        }
+    }
+}
+
+/// The walk that always takes the highest place goes as deep as there are certificates, and never waits with more paths than the table has.
+#[test]
+fn the_most_that_wait() {
+    let waiting = |k| crate::room::shown(&paused(&complete(0, 24, 0), k, &ENOUGH).room).len();
+    assert_eq!(waiting(22), 254);
+    assert!((0..200).all(|k| waiting(k) <= 254));
 }
 
 #[test]
 fn the_table_has_its_formula() {
     assert_eq!(SLOTS[0], 0);
-    for n in 1..17 {
-        assert_eq!(SLOTS[n], (n - 1) * n.saturating_sub(2) / 2 + 1);
+    for (n, slots) in SLOTS.iter().enumerate().skip(1) {
+        assert_eq!(*slots, (n - 1) * n.saturating_sub(2) / 2 + 1);
     }
 }
