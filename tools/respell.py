@@ -11,7 +11,7 @@ import re
 import sys
 
 LIBRARY = "/opt/rattle/rattle"
-FUNCTION_FILES = ("Proof.antt", "Answers.antt", "Invariants.antt")
+FUNCTION_FILES = ("Proof.antt", "Answers.antt", "Invariants.antt")  # below proofs/; specs/ has files of these names too
 FIELDS = ("key-ids",)  # a field's name stands beside a name of src/ without harm
 SIGNATURE = re.compile(r"^\s*(?:(?:pub|abbrev|unfoldable) +)*(record |data |ruleset )?(\S+) :(?=\s|$)")
 TOKEN = re.compile(r"[^\s(){}\[\];,.\"`]+")
@@ -73,7 +73,7 @@ def names(root):
     own, specs = set(), set()
     for p in antt(root):
         for n in signatures(p):
-            if os.path.basename(p) not in FUNCTION_FILES:
+            if "/specs/" in p or os.path.basename(p) not in FUNCTION_FILES:
                 own.add(n)
                 if "/specs/" in p:
                     specs.add(n)

@@ -8,12 +8,12 @@ use Rattle.fields.specs.Fields.{whole, count_p, byte_p}
 use Rattle.fields.specs.declared.fault.Fault.TheVariants.{CutShort}
 use Rattle.card.specs.Card.{card_p, file_p}
 use Rattle.card.specs.Content.{edition_p}
-use Rattle.card.specs.Answers.{readAs, answer}
+use Rattle.card.specs.Answers.{read_as, answer}
 use Rattle.card.specs.declared.Card.{Card}
 use Rattle.card.specs.declared.Ended.TheVariants.{Stop}
 
 -- a card that was kept with a fault: of an empty file, one root
-pub card_kept_with_a_fault : (c : Card) → c.roots.count ≡ 1 → readAs (record { ended = Stop CutShort; card = c }) ≡ answer (file_p []) → ⊥
+pub card_kept_with_a_fault : (c : Card) → c.roots.count ≡ 1 → read_as (record { ended = Stop CutShort; card = c }) ≡ answer (file_p []) → ⊥
 unfolding file_p whole card_p edition_p byte_p count_p
 card_kept_with_a_fault c one h =
     let none : c.roots.count ≡ 0 = ap (λ (p : ℕ × Card). p.1.roots.count) h in

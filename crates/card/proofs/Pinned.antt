@@ -8,7 +8,7 @@ use Rattle.fields.specs.declared.fault.Fault.{Fault}
 use Rattle.fields.specs.declared.fault.Fault.TheVariants.{UnknownEdition, TooLong, CutShort, BadCount, BadValue, LeftOver}
 use Rattle.fields.specs.Answers.{number}
 use Rattle.fields.proofs.Pinned.{pins, fault_of}
-use Rattle.card.specs.Answers.{number_of, readAs}
+use Rattle.card.specs.Answers.{number_of, read_as}
 use Rattle.card.specs.declared.Card.{Card}
 use Rattle.card.specs.declared.Ended.{Ended}
 use Rattle.card.specs.declared.Ended.TheVariants.{Read, Stop}
@@ -29,11 +29,11 @@ pub ended_again : (o : Ended) → ended_of (number_of o) ≡ o
 ended_again Read = refl
 ended_again (Stop f) = stop_again f
 
-pub read_pins : (a b : Reading) → readAs a ≡ readAs b → a ≡ b
-read_pins = pins readAs back again
+pub read_pins : (a b : Reading) → read_as a ≡ read_as b → a ≡ b
+read_pins = pins read_as back again
   where
     back : ℕ × Card → Reading
     back p = record { ended = ended_of p.0; card = p.1 }
 
-    again : (a : Reading) → back (readAs a) ≡ a
+    again : (a : Reading) → back (read_as a) ≡ a
     again a = ap (λ o. record { ended = o; card = a.card }) (ended_again a.ended)

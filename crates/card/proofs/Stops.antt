@@ -24,7 +24,7 @@ use Rattle.task.specs.Task.{host_most, purpose_p}
 use Rattle.task.specs.Placed.{times_p, task_p}
 use Rattle.card.specs.Card.{card_p, file_p}
 use Rattle.card.specs.Content.{file_most, edition_p}
-use Rattle.card.specs.Answers.{number_of, readAs, answer}
+use Rattle.card.specs.Answers.{number_of, read_as, answer}
 use Rattle.card.specs.declared.Card.{Card}
 use Rattle.card.specs.declared.Ended.TheVariants.{Read}
 use Rattle.card.specs.declared.Reading.{Reading}
@@ -243,10 +243,10 @@ pub record WasRead (s : List ℕ) (c : Card) : Type 0 where
   pub end : ℕ
   pub is : file_p s ≡ got c end
 
-pub answered_read : (s : List ℕ) (r : Reading) → readAs r ≡ answer (file_p s) → r.ended ≡ Read → WasRead s r.card
+pub answered_read : (s : List ℕ) (r : Reading) → read_as r ≡ answer (file_p s) → r.ended ≡ Read → WasRead s r.card
 answered_read s r h o = by_file (file_p s) refl h
   where
-    by_file : (x : Parsed Card) → file_p s ≡ x → readAs r ≡ answer x → WasRead s r.card
+    by_file : (x : Parsed Card) → file_p s ≡ x → read_as r ≡ answer x → WasRead s r.card
     by_file (got c e) k t =
         let d : c ≡ r.card = sym (ap (λ (p : ℕ × Card). p.1) t) in
         record { end = e; is = k ∙ ap (λ (c : Card). got c e) d }

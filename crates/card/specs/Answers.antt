@@ -15,8 +15,8 @@ number_of ended.Read = 0
 number_of (ended.Stop f) = number f
 
 -- a reading's number and card
-abbrev pub readAs : Reading → ℕ × Card
-readAs r = (number_of r.ended, r.card)
+abbrev pub read_as : Reading → ℕ × Card
+read_as r = (number_of r.ended, r.card)
 
 -- what a reading must tell: the card, or the fault's number and a card of nothing but zeros
 abbrev pub answer : Parsed Card → ℕ × Card

@@ -1,12 +1,13 @@
 // The card file: its sections in their order, read once from left to right. A card that was read is numbers and places in the file;
 // nothing is copied out of it. Each section has its own crate below, and its types are handed on here. Who issued whom, and what is
 // believed, is left to the crates above.
+#![tactic(auto)]
 ghost use Rattle.std.specs.Prelude.{◌≡◌, cond, leb, ltb, length};
 ghost use Rattle.fields.specs.Fields.{got, stop, after};
 ghost use Rattle.fields.specs.Answers.{passed, passing};
 ghost use Rattle.card.specs.Card.{file_p, fresh_card};
 ghost use Rattle.card.specs.Content.{file_most, edition_p};
-ghost use Rattle.card.specs.Answers.{readAs, answer};
+ghost use Rattle.card.specs.Answers.{read_as, answer};
 
 pub use certificates::{Bundle, Roots};
 use certificates::{bundle_after, roots_after};
@@ -18,7 +19,7 @@ pub use verdicts::Verdicts;
 use verdicts::verdicts_after;
 
 // A card file that was read.
-#[derive(Drop)]
+#[derive(Clone, Copy)]
 pub struct Card {
     pub roots: Roots,
     pub bundle: Bundle,
@@ -45,7 +46,7 @@ impl Card {
 }
 
 // How reading ended.
-#[derive(Drop)]
+#[derive(Clone, Copy)]
 pub enum Ended {
     Read,
     Stop(Fault),
@@ -53,7 +54,7 @@ pub enum Ended {
 
 // What reading a file came to; with a fault the card is nothing but zeros. How it ended stands last, so that the card is copied whole and
 // aligned.
-#[derive(Drop)]
+#[derive(Clone, Copy)]
 pub struct Reading {
     pub card: Card,
     pub ended: Ended,
@@ -62,7 +63,7 @@ pub struct Reading {
 // A file's card, or the first fault from left to right, and then nothing of what was read before it. Each arm returns, so that the card is
 // not copied out of the match.
 pub fn read(file: &[u8]) -> Reading
-    ensures { readAs result ≡ answer (file_p file.now) }
+    ensures { read_as result ≡ answer (file_p file.now) }
 {
     let begun = edition_past(file);
     let roots_read = roots_after(file, begun);

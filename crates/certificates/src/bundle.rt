@@ -12,7 +12,7 @@ use places::BundlePlace;
 use record::{Record, RecordAt, record_at};
 
 // The count stands last, so that the records are copied whole and aligned.
-#[derive(Drop)]
+#[derive(Clone, Copy)]
 pub struct Bundle {
     pub records: [Record; Bundle::MOST],
     pub count: u8,
@@ -60,7 +60,7 @@ impl Bundle {
 }
 
 // The bundle and the place past it; no certificates with a fault.
-#[derive(Drop)]
+#[derive(Clone, Copy)]
 pub struct BundleRead {
     pub past: Past,
     pub bundle: Bundle,

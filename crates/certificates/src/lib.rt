@@ -1,6 +1,7 @@
 // The certificates of a card file: its two lists, roots and bundle. Each list is read where the
 // section before it ends; a list that was read is records, which are numbers and places in the file. The other sections are left to
 // the crates above.
+#![tactic(auto)]
 mod bundle;
 mod roots;
 

@@ -12,7 +12,7 @@ use places::RootPlace;
 use record::{Record, RecordAt, record_at};
 
 // The count stands last, so that the records are copied whole and aligned.
-#[derive(Drop)]
+#[derive(Clone, Copy)]
 pub struct Roots {
     pub records: [Record; Roots::MOST],
     pub count: u8,
@@ -60,7 +60,7 @@ impl Roots {
 }
 
 // The roots and the place past them; no roots with a fault.
-#[derive(Drop)]
+#[derive(Clone, Copy)]
 pub struct RootsRead {
     pub past: Past,
     pub roots: Roots,

@@ -1,4 +1,4 @@
-pub mod Asked
+pub mod TaskAsked
 pub mod Bytes
 pub mod Numbers
 pub mod One

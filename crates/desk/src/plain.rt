@@ -8,7 +8,7 @@ use reply::{Answer, Reply};
 
 // The reply's number, root and steps, and the path beside it: its length and its places, 0 past them.
 #[repr(C)]
-#[derive(Drop)]
+#[derive(Clone, Copy)]
 pub struct Plain {
     pub steps: u64,
     pub number: u8,

@@ -9,7 +9,7 @@ use card::Ended;
 // Now and budget, where the host stands in the file and how long it is, and how many roots and certificates there are. The number is 0;
 // where the file can't be read it is the fault's, and all else is 0.
 #[repr(C)]
-#[derive(Drop)]
+#[derive(Clone, Copy)]
 pub struct Asked {
     pub now: u64,
     pub budget: u64,

@@ -8,7 +8,7 @@ use text::Normalized;
 
 // The normal form's length and number 0, or length 0 and number 10.
 #[repr(C)]
-#[derive(Drop)]
+#[derive(Clone, Copy)]
 pub struct Form {
     pub length: u64,
     pub number: u8,

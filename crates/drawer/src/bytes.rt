@@ -30,7 +30,7 @@ fn digit(b: u8) -> usize
 }
 
 // A byte that an argument stands for, and the place past what stands for it.
-#[derive(Drop)]
+#[derive(Clone, Copy)]
 struct Taken {
     byte: u8,
     next: usize,

@@ -14,6 +14,7 @@
 // In an argument each byte stands for itself, except `\XX`, two of 0 to 9 and A to F, which is that byte.
 // Empty lines and lines that begin with # are skipped; a line of no form above is answered `unknown question`.
 // An argument has at most 4,096 bytes and the whole input 65,536: what is over is not read.
+#![tactic(auto)]
 mod ask;
 mod believe;
 mod bytes;

@@ -24,10 +24,10 @@ unfolding optional_p span_if_p
 option_valued true most s at = by_place (span_p 1 most s at) (λ p. bytes_of p s) _ (string_by_span 1 most s at)
 option_valued false most s at = refl
 
-path-length_valued : (flags : ℕ) (s : List ℕ) (at : ℕ)
+path_length_valued : (flags : ℕ) (s : List ℕ) (at : ℕ)
     → optional_p (has_path_length flags) byte_p s at ≡ valued (present (has_path_length flags)) (path_length_p flags s at)
 unfolding optional_p path_length_p
-path-length_valued flags s at = by_flag (has_path_length flags)
+path_length_valued flags s at = by_flag (has_path_length flags)
   where
     by_flag : (b : Bool) → cond b (after (byte_p s at) (λ a e. got (some a) e)) (got none at) ≡ valued (present b) (cond b (byte_p s at) (got 0 at))
     by_flag true = refl
@@ -83,7 +83,7 @@ module _ {B : Type 0} (flags : ℕ) (s : List ℕ) where
       after (counted_p 0 usages_most usage_p s h) (λ u i.
       after (counted_p 0 dns_names_most dns_name_p s i) (λ d j. k a b c p u d j))))
       ∙ after_same (key_ids_p flags s at) (λ x g.
-      by_place (path_length_p flags s g) _ _ (path-length_valued flags s g)
+      by_place (path_length_p flags s g) _ _ (path_length_valued flags s g)
       ∙ after_same (path_length_p flags s g) (λ p h.
       by_place (usages_p s h) _ _ (run_valued usages_most usage_p s h)
       ∙ after_same (usages_p s h) (λ u i.

@@ -3,7 +3,7 @@ ghost use Rattle.std.specs.Prelude.{◌≡◌};
 ghost use Rattle.extensions.specs.Flags.{flag};
 
 // The flags byte of a record.
-#[derive(Drop)]
+#[derive(Clone, Copy)]
 pub struct Flags {}
 
 impl Flags {

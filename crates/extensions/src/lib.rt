@@ -1,5 +1,6 @@
 // What a certificate's record has behind its names: key ids and a path length by its flags, and its lists. What was read is numbers and
 // places in the file. Which flags a record has, and what stands before, is left to the crate above.
+#![tactic(auto)]
 mod flags;
 
 ghost use Rattle.std.specs.Prelude.{◌≡◌};
@@ -13,7 +14,7 @@ pub use flags::{Flags, has_flag};
 use lists::{Run, RunAt, dns_names_at, usages_at};
 
 // Key ids and the authority's serial; a part whose flag is not set stands nowhere.
-#[derive(Drop)]
+#[derive(Clone, Copy)]
 pub struct KeyIds {
     pub authority: Span,
     pub authority_serial: Span,
@@ -28,7 +29,7 @@ impl KeyIds {
     pub const SERIAL_MOST: usize = 20;
 }
 
-#[derive(Drop)]
+#[derive(Clone, Copy)]
 pub struct Extensions {
     pub key_ids: KeyIds,
     pub path_length: usize,
@@ -36,19 +37,19 @@ pub struct Extensions {
     pub dns_names: Run,
 }
 
-#[derive(Drop)]
+#[derive(Clone, Copy)]
 pub enum ExtensionsAt {
     Got { extensions: Extensions, next: usize },
     Stop(Fault),
 }
 
-#[derive(Drop)]
+#[derive(Clone, Copy)]
 pub enum KeyIdsAt {
     Got { key_ids: KeyIds, next: usize },
     Stop(Fault),
 }
 
-#[derive(Drop)]
+#[derive(Clone, Copy)]
 enum OptionAt {
     Got { span: Span, next: usize },
     Stop(Fault),

@@ -6,7 +6,7 @@ ghost use Rattle.fields.specs.Answers.{counted};
 use crate::Fault;
 
 // A count, and the place past it.
-#[derive(Drop)]
+#[derive(Clone, Copy)]
 pub enum CountAt {
     Got { count: usize, next: usize },
     Stop(Fault),

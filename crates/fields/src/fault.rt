@@ -2,7 +2,7 @@
 ghost use Rattle.std.specs.Prelude.{◌≡◌};
 ghost use Rattle.fields.specs.Answers.{number};
 
-#[derive(Drop)]
+#[derive(Clone, Copy)]
 pub enum Fault {
     UnknownEdition,
     TooLong,

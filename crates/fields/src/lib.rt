@@ -1,6 +1,7 @@
 // The pieces that every part of a card file is made of: a count byte, a string, a big-endian number.
 // A reader `X_at(file, at)` answers what stands at a place and the place past it, or why it can't be read.
 // Which pieces make up a record or a name is left to the crates above.
+#![tactic(auto)]
 mod count;
 mod fault;
 mod number;
@@ -12,7 +13,7 @@ pub use number::{NumberAt, u16_at, u64_at};
 pub use string::{Span, StringAt, part, string_at};
 
 // The place past a thing that was read, or why it can't be read.
-#[derive(Drop)]
+#[derive(Clone, Copy)]
 pub enum Past {
     Got(usize),
     Stop(Fault),

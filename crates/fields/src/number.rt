@@ -6,7 +6,7 @@ ghost use Rattle.fields.specs.Answers.{numbered};
 use crate::Fault;
 
 // A number, and the place past it.
-#[derive(Drop)]
+#[derive(Clone, Copy)]
 pub enum NumberAt {
     Got { value: u64, next: usize },
     Stop(Fault),

@@ -6,7 +6,7 @@ ghost use Rattle.fields.specs.Answers.{spanned};
 use crate::{CountAt, Fault, count_at};
 
 // A string's bytes in a file: from start up to end, which is the place past the string.
-#[derive(Drop)]
+#[derive(Clone, Copy)]
 pub struct Span {
     pub start: usize,
     pub end: usize,
@@ -17,7 +17,7 @@ impl Span {
     pub const NOWHERE: Span = Span { start: 0, end: 0 };
 }
 
-#[derive(Drop)]
+#[derive(Clone, Copy)]
 pub enum StringAt {
     Got(Span),
     Stop(Fault),

@@ -1,5 +1,5 @@
 -- Who issued whom by records and by what the file says are the same: for two records that stand in the file (`likely_read`), and for the
--- rows of a card that was read, at every two places (`bundle-row_agrees`, `root-row_agrees`); past the counts both are no. So is who is
+-- rows of a card that was read, at every two places (`bundle_row_agrees`, `root_row_agrees`); past the counts both are no. So is who is
 -- self-issued (`self_issued_read`). On the way: the certificate at a place is what its record says (`root_is`, `bundled-is`). For policy and
 -- question. By records: specs/Records.antt; by what the file says: specs/Issued.antt.
 use Prim.Native.Nat.{ℕ, zero, suc, ◌<◌, ◌≤◌}
@@ -15,7 +15,7 @@ use Rattle.record.specs.Fresh.{fresh}
 use Rattle.record.specs.declared.Record.{Record}
 use Rattle.record.specs.Parts.{issuer_span, subject_span, certificate_of}
 use Rattle.record.proofs.Meaning.{issuer-within, subject-within, says-issuer, says-subject}
-use Rattle.same.specs.Answers.{sameNames}
+use Rattle.same.specs.Answers.{same_names}
 use Rattle.same.specs.Same.{same_dn}
 use Rattle.same.proofs.Spans.{spans_read}
 use Rattle.certificates.specs.Certificates.{record_of, size_of}
@@ -36,7 +36,7 @@ use Rattle.issuing.specs.Records.{likely_issued_at, self_issued_at, bundle_issue
 
 -- the subject's issuer name beside the issuer's subject name
 names_read : (s : List ℕ) (issuer subject : Record) → Stands s issuer → Stands s subject
-    → sameNames true (issuer_span subject) (subject_span issuer) s ≡ same_dn true (certificate_of subject s).issuer (certificate_of issuer s).subject
+    → same_names true (issuer_span subject) (subject_span issuer) s ≡ same_dn true (certificate_of subject s).issuer (certificate_of issuer s).subject
 names_read s issuer subject i j =
     spans_read true s (issuer_span subject) (subject_span issuer) _ _ j.read.issuer i.read.subject
     (issuer-within s subject j.past j.read) (subject-within s issuer i.past i.read)
@@ -143,19 +143,19 @@ module _ (s : List ℕ) (c : Card) (e : ℕ) (t : CardRead s c e) where
       pair_agrees s (content_of c s) (root i) j _ _ (root_stands s c e t i h) (bundled-stands s c e t j k) (root_is i h) (bundled-is j k)
       _ (root_signed_lem s c e t i j)
 
-  pub bundle-row_agrees : (i j : ℕ) → has i (get_or (bundle_rows s c.bundle c.verdicts) j 0) ≡ issued (content_of c s) (bundled i) j
+  pub bundle_row_agrees : (i j : ℕ) → has i (get_or (bundle_rows s c.bundle c.verdicts) j 0) ≡ issued (content_of c s) (bundled i) j
   unfolding bundle_rows
-  bundle-row_agrees i j =
+  bundle_row_agrees i j =
       let count = bundle_counted s c e t in
       let few = bundle-few s c e t in
       rw (size_is bundle_most c.bundle.count (omega arith))
       (rows_agree (content_of c s) bundled (bundle_issued_at s c.bundle c.verdicts) bundle_most c.bundle.count c.bundle.count
       (omega arith) (λ i h. le-ltb i _ (omega arith)) (omega arith) bundle_pair i j)
 
-  pub root-row_agrees : (i j : ℕ)
+  pub root_row_agrees : (i j : ℕ)
       → has i (get_or (root_rows s c.roots c.bundle c.verdicts) j 0) ≡ issued (content_of c s) (root i) j
   unfolding root_rows
-  root-row_agrees i j =
+  root_row_agrees i j =
       let count = bundle_counted s c e t in
       let few = bundle-few s c e t in
       let roots = roots_counted s c e t in

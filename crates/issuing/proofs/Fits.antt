@@ -7,7 +7,7 @@ use mathlib.Core.Bool.{Bool, true, false, ◌&&◌}
 use mathlib.Core.List.{List}
 use Rattle.fields.specs.Spans.{bytes_of}
 use Rattle.fields.specs.declared.string.Span.{Span}
-use Rattle.same.specs.Answers.{sameNames}
+use Rattle.same.specs.Answers.{same_names}
 use Rattle.keys.specs.AuthKeyId.{check_auth_key_id}
 use Rattle.keys.specs.Given.{given}
 use Rattle.extensions.specs.Flags.{has_authority_key_id, has_authority_serial, has_subject_key_id}
@@ -64,16 +64,16 @@ module _ (s : List ℕ) (issuer subject : Record) where
   after_no false b h = refl
 
   pub likely_names : (claim : Claim) (name : Span) (r : Bool) → keys_fit (certificate_of issuer s) (certificate_of subject s) ≡ true
-      → claim ≡ claim_of s subject → name ≡ subject_span issuer → r ≡ sameNames true claim.name name s → r ≡ likely_issued_at s issuer subject
+      → claim ≡ claim_of s subject → name ≡ subject_span issuer → r ≡ same_names true claim.name name s → r ≡ likely_issued_at s issuer subject
   unfolding likely_issued_at claim_of
   likely_names claim name r h p q e = e ∙ rw (p, q) (after_yes _ _ h)
 
   pub likely_none : keys_fit (certificate_of issuer s) (certificate_of subject s) ≡ false → false ≡ likely_issued_at s issuer subject
   unfolding likely_issued_at
-  likely_none h = after_no (sameNames true (issuer_span subject) (subject_span issuer) s) _ h
+  likely_none h = after_no (same_names true (issuer_span subject) (subject_span issuer) s) _ h
 
 -- the names that the code compares are the certificate's own
 pub self_names : (s : List ℕ) (cert : Record) {issuer subject : Span} {r : Bool} → issuer ≡ issuer_span cert → subject ≡ subject_span cert
-    → r ≡ sameNames true issuer subject s → r ≡ self_issued_at s cert
+    → r ≡ same_names true issuer subject s → r ≡ self_issued_at s cert
 unfolding self_issued_at
 self_names s cert p q e = e ∙ rw (p, q)

@@ -3,7 +3,7 @@
 -- was read: proofs/Agrees.antt.
 use Rattle.std.specs.Prelude.{ℕ, Bool, true, ◌&&◌, List, [], ◌∷◌}
 use Rattle.places.specs.Limits.{roots_most, bundle_most}
-use Rattle.same.specs.Answers.{sameNames}
+use Rattle.same.specs.Answers.{same_names}
 use Rattle.record.specs.Parts.{head_of, key_ids_of, issuer_span, subject_span, certificate_of}
 use Rattle.record.specs.declared.Record.{Record}
 use Rattle.certificates.specs.Certificates.{record_of, size_of}
@@ -25,11 +25,11 @@ claim_of s subject =
 -- the subject's issuer name comes first
 unfoldable pub likely_issued_at : List ℕ → Record → Record → Bool
 likely_issued_at s issuer subject =
-    sameNames true (issuer_span subject) (subject_span issuer) s && keys_fit (certificate_of issuer s) (certificate_of subject s)
+    same_names true (issuer_span subject) (subject_span issuer) s && keys_fit (certificate_of issuer s) (certificate_of subject s)
 
 -- its issuer name comes first
 unfoldable pub self_issued_at : List ℕ → Record → Bool
-self_issued_at s cert = sameNames true (issuer_span cert) (subject_span cert) s
+self_issued_at s cert = same_names true (issuer_span cert) (subject_span cert) s
 
 -- bundle place i issued bundle place j
 unfoldable pub bundle_issued_at : List ℕ → Bundle → Verdicts → ℕ → ℕ → Bool

@@ -1,5 +1,6 @@
 // Who issued whom, of records that were read: likely issued, and found signed. Filled once into rows of bits, each pair of places
 // compared at most once; the search reads the rows.
+#![tactic(auto)]
 mod likely;
 mod row;
 
@@ -14,7 +15,7 @@ use rows::either;
 use same::same_names;
 
 // Who issued whom: a row for each subject of the bundle.
-#[derive(Drop)]
+#[derive(Clone, Copy)]
 pub struct Issuing {
     pub bundle: [u64; Bundle::MOST],
     pub roots: [u64; Bundle::MOST],

@@ -12,7 +12,7 @@ use record::Record;
 use same::same_names;
 
 // What a certificate says of its issuer: the name and, by its flags, key id and serial.
-#[derive(Drop)]
+#[derive(Clone, Copy)]
 pub(crate) struct Claim {
     pub(crate) flags: usize,
     pub(crate) key_id: Span,

@@ -3,7 +3,7 @@ ghost use Rattle.std.specs.Prelude.{◌≡◌, length};
 ghost use Rattle.keys.specs.Address.{ip_addr_in_range, masked};
 
 // An address, of as many bytes as one of the two.
-#[derive(Drop)]
+#[derive(Clone, Copy)]
 pub struct Address {}
 
 impl Address {

@@ -1,5 +1,6 @@
 // The lists of a certificate's record, usages and DNS names: how many there are and where the first stands, and the usage or DNS name
 // at a place. What a record has beside its lists is left to the crates above.
+#![tactic(auto)]
 mod dns_names;
 mod usages;
 
@@ -8,7 +9,7 @@ use fields::Fault;
 pub use usages::{usage_at, usages_at};
 
 // A list that was read: how many things it has, and where the first one stands.
-#[derive(Drop)]
+#[derive(Clone, Copy)]
 pub struct Run {
     pub count: usize,
     pub first: usize,
@@ -30,7 +31,7 @@ impl Run {
     pub const DNS_NAME_MOST: usize = 253;
 }
 
-#[derive(Drop)]
+#[derive(Clone, Copy)]
 pub enum RunAt {
     Got { run: Run, next: usize },
     Stop(Fault),

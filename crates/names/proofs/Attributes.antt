@@ -10,15 +10,15 @@ use Rattle.fields.specs.declared.fault.Fault.{Fault}
 use Rattle.fields.specs.declared.string.Span.{Span}
 use Rattle.fields.proofs.Strings.{span_read, string_got, string_stops}
 use Rattle.names.specs.Names.{attr_p, oid_most, value_most}
-use Rattle.names.specs.Answers.{spansP, attributed, attrOf}
+use Rattle.names.specs.Answers.{spans_p, attributed, attr_of}
 use Rattle.names.specs.declared.read.Attribute.{Attribute}
 use Rattle.names.specs.declared.read.AttributeAt.{AttributeAt}
 use Rattle.names.specs.declared.read.AttributeAt.TheVariants.{Got, Stop}
 
 module _ (s : List ℕ) (at : ℕ) where
-  -- attr_p by the places that spansP finds
+  -- attr_p by the places that spans_p finds
   attr_by : Parsed Attribute → Type 0
-  attr_by (got a e) = attr_p s at ≡ got (attrOf a s) a.value.end
+  attr_by (got a e) = attr_p s at ≡ got (attr_of a s) a.value.end
   attr_by (stop r) = attr_p s at ≡ stop r
 
   by_value : (o : Span) (e : ℕ) → span_p 1 oid_most s at ≡ got o e → (y : Parsed Span) → span_p 0 value_most s e ≡ y
@@ -33,12 +33,12 @@ module _ (s : List ℕ) (at : ℕ) where
   by_oid (got o e) h = by_value o e h _ refl
   by_oid (stop r) h = rw (string_stops 1 oid_most s at r h)
 
-  attr_told : attr_by (spansP 1 oid_most 0 value_most s at)
-  unfolding spansP
+  attr_told : attr_by (spans_p 1 oid_most 0 value_most s at)
+  unfolding spans_p
   attr_told = by_oid _ refl
 
-  module _ (r : AttributeAt) (h : attributed r ≡ spansP 1 oid_most 0 value_most s at) where
-    pub attr_read : (a : Attribute) → r ≡ Got a → attr_p s at ≡ got (attrOf a s) a.value.end
+  module _ (r : AttributeAt) (h : attributed r ≡ spans_p 1 oid_most 0 value_most s at) where
+    pub attr_read : (a : Attribute) → r ≡ Got a → attr_p s at ≡ got (attr_of a s) a.value.end
     unfolding attr_by
     attr_read a e = rw (← ap attributed (sym e) ∙ h) at attr_told
 

@@ -14,8 +14,8 @@ use Rattle.names.specs.declared.read.NameAt.{NameAt}
 use Rattle.names.specs.declared.read.NameAt.TheVariants as name
 
 -- the places of an attribute's OID and value, by their limits
-unfoldable pub spansP : ℕ → ℕ → ℕ → ℕ → List ℕ → ℕ → Parsed Attribute
-spansP oidLeast oid_most valueLeast value_most s at =
+unfoldable pub spans_p : ℕ → ℕ → ℕ → ℕ → List ℕ → ℕ → Parsed Attribute
+spans_p oidLeast oid_most valueLeast value_most s at =
     after (span_p oidLeast oid_most s at) (λ o e.
     after (span_p valueLeast value_most s e) (λ v f.
     got (record { oid = o; value = v }) f))
@@ -25,14 +25,14 @@ attributed (attribute.Got a) = got a a.value.end
 attributed (attribute.Stop f) = stop (number f)
 
 -- a count, and the place past it
-abbrev pub rdnBegun : RdnAt → Parsed ℕ
-rdnBegun (rdn.Got a) = got a.count a.first
-rdnBegun (rdn.Stop f) = stop (number f)
+abbrev pub rdn_begun : RdnAt → Parsed ℕ
+rdn_begun (rdn.Got a) = got a.count a.first
+rdn_begun (rdn.Stop f) = stop (number f)
 
-abbrev pub nameBegun : NameAt → Parsed ℕ
-nameBegun (name.Got a) = got a.count a.first
-nameBegun (name.Stop f) = stop (number f)
+abbrev pub name_begun : NameAt → Parsed ℕ
+name_begun (name.Got a) = got a.count a.first
+name_begun (name.Stop f) = stop (number f)
 
 -- the attribute that stands at the places of one that was read
-abbrev pub attrOf : Attribute → List ℕ → Attr
-attrOf a s = record { oid = bytes_of a.oid s; value = bytes_of a.value s }
+abbrev pub attr_of : Attribute → List ℕ → Attr
+attr_of a s = record { oid = bytes_of a.oid s; value = bytes_of a.value s }

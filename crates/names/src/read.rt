@@ -3,12 +3,12 @@ ghost use Rattle.std.specs.Prelude.{◌≡◌};
 ghost use Rattle.fields.specs.Fields.{count_p, many};
 ghost use Rattle.fields.specs.Answers.{passed, passing};
 ghost use Rattle.names.specs.Names.{attr_p, rdn_p, name_p};
-ghost use Rattle.names.specs.Answers.{attributed, spansP, rdnBegun, nameBegun};
+ghost use Rattle.names.specs.Answers.{attributed, spans_p, rdn_begun, name_begun};
 
 use fields::{CountAt, Fault, Past, Span, StringAt, count_at, string_at};
 
 // An attribute that was read: where its OID and its value stand.
-#[derive(Drop)]
+#[derive(Clone, Copy)]
 pub struct Attribute {
     pub oid: Span,
     pub value: Span,
@@ -25,7 +25,7 @@ impl Attribute {
 }
 
 // An RDN that was begun: how many attributes it has, and where the first one stands.
-#[derive(Drop)]
+#[derive(Clone, Copy)]
 pub struct Rdn {
     pub count: usize,
     pub first: usize,
@@ -38,7 +38,7 @@ impl Rdn {
 }
 
 // A name that was begun: how many RDNs it has, and where the first one stands.
-#[derive(Drop)]
+#[derive(Clone, Copy)]
 pub struct Name {
     pub count: usize,
     pub first: usize,
@@ -50,19 +50,19 @@ impl Name {
     pub const MOST: usize = 16;
 }
 
-#[derive(Drop)]
+#[derive(Clone, Copy)]
 pub enum AttributeAt {
     Got(Attribute),
     Stop(Fault),
 }
 
-#[derive(Drop)]
+#[derive(Clone, Copy)]
 pub enum RdnAt {
     Got(Rdn),
     Stop(Fault),
 }
 
-#[derive(Drop)]
+#[derive(Clone, Copy)]
 pub enum NameAt {
     Got(Name),
     Stop(Fault),
@@ -70,12 +70,8 @@ pub enum NameAt {
 
 // The attribute at a place; the place past it is the end of its value.
 pub fn attribute_at(file: &[u8], at: usize) -> AttributeAt
-    ensures* { do
-      oid-least ← (⟦Attribute::OID_LEAST⟧).entry
-      oid-most ← (⟦Attribute::OID_MOST⟧).entry
-      value-least ← (⟦Attribute::VALUE_LEAST⟧).entry
-      value-most ← (⟦Attribute::VALUE_MOST⟧).entry
-      ⌜ attributed result ≡ spansP oid-least oid-most value-least value-most file.now at ⌝ }
+    ensures { attributed result
+        ≡ spans_p Attribute.OID_LEAST Attribute.OID_MOST Attribute.VALUE_LEAST Attribute.VALUE_MOST file.now at }
 {
     match string_at(file, at, Attribute::OID_LEAST, Attribute::OID_MOST) {
         StringAt::Got(oid) => match string_at(
@@ -99,7 +95,7 @@ pub fn attribute_at(file: &[u8], at: usize) -> AttributeAt
 
 // The count of an RDN's attributes.
 pub fn rdn_begins(file: &[u8], at: usize) -> RdnAt
-    ensures* { do ⌜ rdnBegun result ≡ count_p (← (⟦Rdn::LEAST⟧).entry) (← (⟦Rdn::MOST⟧).entry) file.now at ⌝ }
+    ensures { rdn_begun result ≡ count_p Rdn.LEAST Rdn.MOST file.now at }
 {
     match count_at(file, at, Rdn::LEAST, Rdn::MOST) {
         CountAt::Got { count, next } => {
@@ -113,7 +109,7 @@ pub fn rdn_begins(file: &[u8], at: usize) -> RdnAt
 
 // The count of a name's RDNs.
 pub fn name_begins(file: &[u8], at: usize) -> NameAt
-    ensures* { do ⌜ nameBegun result ≡ count_p (← (⟦Name::LEAST⟧).entry) (← (⟦Name::MOST⟧).entry) file.now at ⌝ }
+    ensures { name_begun result ≡ count_p Name.LEAST Name.MOST file.now at }
 {
     match count_at(file, at, Name::LEAST, Name::MOST) {
         CountAt::Got { count, next } => {

@@ -1,5 +1,6 @@
 // A place among the roots and a place in the bundle: two kinds of number, counted from 0, and how many of each a card has at most.
-#[derive(Drop)]
+#![tactic(auto)]
+#[derive(Clone, Copy)]
 pub struct RootPlace(pub u8);
 
 impl RootPlace {
@@ -7,7 +8,7 @@ impl RootPlace {
 }
 
 #[repr(C)]
-#[derive(Drop)]
+#[derive(Clone, Copy)]
 pub struct BundlePlace(pub u8);
 
 impl BundlePlace {

@@ -1,5 +1,5 @@
 -- The policy by where a certificate stands: what a chain is asked rule by rule is what its leaf, each certificate between and its root are
--- asked (`policy_by_seat`), for Seats.antt and Qualified.antt. The policy: specs/Policy.antt; what is asked by where one stands:
+-- asked (`policy_by_seat`), for SeatsRead.antt and Qualified.antt. The policy: specs/Policy.antt; what is asked by where one stands:
 -- specs/Sound.antt; the rule on path lengths alone: Lengths.antt.
 use Prim.Native.Nat.{ℕ, ◌+◌}
 use mathlib.Core.Path.{◌≡◌, refl, sym}

@@ -9,4 +9,4 @@ pub mod Once
 pub mod Places
 pub mod Qualified
 pub mod Qualifying
-pub mod Seats
+pub mod SeatsRead

@@ -1,6 +1,6 @@
 -- What the tests of one certificate come to: what is asked of it between leaf and root, as the root and as the leaf, by the first test that
 -- fails; and the facts of a card by their parts (`judged_is`). For the proofs of src/judged.rt; what is asked: specs/Sound.antt; that this
--- is the policy: Chains.antt, Seats.antt.
+-- is the policy: Chains.antt, SeatsRead.antt.
 use Prim.Native.Nat.{ℕ}
 use mathlib.Core.Bool.{true, false, ◌&&◌, and-true, and-false}
 use mathlib.Core.List.{List}

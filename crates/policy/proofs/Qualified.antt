@@ -23,7 +23,7 @@ use Rattle.card.proofs.Standing.{roots_counted}
 use Rattle.rows.specs.Rows.{has}
 use Rattle.issuing.specs.Issued.{issued}
 use Rattle.issuing.specs.Records.{root_rows, issuers_of}
-use Rattle.issuing.proofs.Agrees.{and_no, no_issuer, bundle-row_agrees, root-row_agrees}
+use Rattle.issuing.proofs.Agrees.{and_no, no_issuer, bundle_row_agrees, root_row_agrees}
 use Rattle.issuing.proofs.Issuers.{issuer_among}
 use Rattle.order.specs.Listing.{◌among◌}
 use Rattle.order.specs.Paths.{last}
@@ -35,7 +35,7 @@ use Rattle.policy.specs.Judging.{stands, counting, all_stand, qualifies_by}
 use Rattle.policy.specs.Qualifies.{qualifies}
 use Rattle.policy.proofs.Lengths.{non_self_issued, counts-few}
 use Rattle.policy.proofs.Chains.{after_yes, all_between, leaf_sound, by_seat, policy_by_seat}
-use Rattle.policy.proofs.Seats.{all_stand_read, counting_read, top_read, leaves_read}
+use Rattle.policy.proofs.SeatsRead.{all_stand_read, counting_read, top_read, leaves_read}
 
 module _ (s : List ℕ) (c : Card) (e : ℕ) (t : CardRead s c e) (time : Time) where
   abbrev content : Content
@@ -53,7 +53,7 @@ module _ (s : List ℕ) (c : Card) (e : ℕ) (t : CardRead s c e) (time : Time) 
 
   pub issuer_judged : (i j : ℕ) → has i (get_or (judged_of s time c).issuing.bundle j 0) ≡ issued content (bundled i) j
   unfolding judged_of
-  issuer_judged i j = bundle-row_agrees s c e t i j
+  issuer_judged i j = bundle_row_agrees s c e t i j
 
   -- a root that issued anything is there
   issuer-there : (r j : ℕ) → issued content (root r) j ≡ true → r < c.roots.count
@@ -86,13 +86,13 @@ module _ (s : List ℕ) (c : Card) (e : ℕ) (t : CardRead s c e) (time : Time) 
     root_judged r =
         let low : end < bundle_most = let a = inside end (last_among p l) in let b = count-few bundle_most s _ _ _ t.bundle in omega arith in
         rw (lt-ltb end bundle_most low, leaves_read s c e t time p (inside p (here refl)))
-        (ap (λ b. leaf && between && (b && above (counting counted 0 l) r)) (root-row_agrees s c e t r end) ∙ by_issuer (issued content (root r) end) refl)
+        (ap (λ b. leaf && between && (b && above (counting counted 0 l) r)) (root_row_agrees s c e t r end) ∙ by_issuer (issued content (root r) end) refl)
       where
         by_issuer : (b : Bool) → issued content (root r) end ≡ b
             → leaf && between && (b && above (counting counted 0 l) r) ≡ (b && policy time content.host (chain_of content p l r))
         by_issuer false k = and_no (leaf && between) false refl
         by_issuer true k =
-            let asked = issuer_among rows end r (root-row_agrees s c e t r end ∙ k) in
+            let asked = issuer_among rows end r (root_row_agrees s c e t r end ∙ k) in
             let after : (i : ℕ) → i among l → i < c.bundle.count = λ i m. inside i (there m) in
             let n = non_self_issued (map place l) in
             let size : n ≤ 255 = let a = counts-few (map place l) in let b = length-map l place in omega arith in

@@ -1,6 +1,6 @@
 -- What is judged once per certificate: what the policy asks of it by where it stands in a chain, its path length aside; its limit; and
 -- whether it counts. Then all the facts of a card that a search asks (`judged_of`), which is the contract of `judge`.
--- Not here: the policy on a chain (Policy.antt), and that it comes to this (`policy_by_seat` of proofs/Chains.antt, and proofs/Seats.antt);
+-- Not here: the policy on a chain (Policy.antt), and that it comes to this (`policy_by_seat` of proofs/Chains.antt, and proofs/SeatsRead.antt);
 -- a path judged by these facts (Judging.antt).
 use Rattle.std.specs.Prelude.{ℕ, Bool, cond, not, ◌&&◌, List, replicate}
 use Rattle.places.specs.Limits.{roots_most, bundle_most}

@@ -15,14 +15,14 @@ use rules::{Time, authority, for_host, for_servers, handled, in_date, limit, wel
 
 // The places of the bundle that may stand between leaf and root, and for each how many certificates that count its path length lets stand
 // below it.
-#[derive(Drop)]
+#[derive(Clone, Copy)]
 pub struct Between {
     pub sound: u64,
     pub limits: [u8; Bundle::MOST],
 }
 
 // The same of the roots that were asked for.
-#[derive(Drop)]
+#[derive(Clone, Copy)]
 pub struct Above {
     pub sound: u64,
     pub limits: [u8; Roots::MOST],
@@ -30,7 +30,7 @@ pub struct Above {
 
 // All the facts of a card that a search asks; at last the places that are sound as the leaf, and of those between the ones that path
 // lengths count.
-#[derive(Drop)]
+#[derive(Clone, Copy)]
 pub struct Judged {
     pub issuing: Issuing,
     pub between: Between,
@@ -82,7 +82,7 @@ pub fn judge(file: &[u8], time: Time, card: Card) -> Judged
 }
 
 // What is judged of the bundle.
-#[derive(Drop)]
+#[derive(Clone, Copy)]
 struct Places {
     between: Between,
     leaves: u64,

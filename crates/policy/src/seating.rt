@@ -10,7 +10,7 @@ use rows::{below, either, lowest, shared, with, without};
 
 // Three rows for each seat: the roots that may stand above, the places that may come next and count, and those that may and don't. Seat 0
 // is none, seat 1 is before the leaf, and each after it is above the leaf and one certificate more that counts.
-#[derive(Drop)]
+#[derive(Clone, Copy)]
 pub struct Seats {
     pub rows: [u64; Seats::ROWS],
 }

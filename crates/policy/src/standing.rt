@@ -7,7 +7,7 @@ use crate::Seats;
 use rows::has;
 
 // How a path stands: its seat. It grows by one with each certificate that counts, and is 0 if one may not stand where it does.
-#[derive(Drop)]
+#[derive(Clone, Copy)]
 pub struct Standing {
     pub seat: usize,
 }

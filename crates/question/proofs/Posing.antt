@@ -8,7 +8,7 @@ use Rattle.fields.specs.Answers.{number}
 use Rattle.fields.specs.Fields.{Parsed, got, stop}
 use Rattle.fields.specs.declared.fault.Fault.{Fault}
 use Rattle.fields.specs.declared.fault.Fault.TheVariants.{UnknownEdition, TooLong, CutShort, BadCount, BadValue, LeftOver}
-use Rattle.card.specs.Answers.{readAs, number_of, answer}
+use Rattle.card.specs.Answers.{read_as, number_of, answer}
 use Rattle.card.specs.Card.{file_p}
 use Rattle.card.specs.declared.Card.{Card}
 use Rattle.card.specs.declared.Ended.TheVariants.{Read, Stop}
@@ -27,7 +27,7 @@ fault_some BadCount h = omega arith
 fault_some BadValue h = omega arith
 fault_some LeftOver h = omega arith
 
-module _ (s : List ℕ) (w : When) (reading : Reading) (says : readAs reading ≡ answer (file_p s)) {q : Question} where
+module _ (s : List ℕ) (w : When) (reading : Reading) (says : read_as reading ≡ answer (file_p s)) {q : Question} where
   pub posed_read : reading.ended ≡ Read → q ≡ question_of s w reading.card → posed_as (record { question = q; ended = Read }) ≡ posed s w (file_p s)
   posed_read o e = let r = answered_read s reading says o in rw (r.is, e)
 

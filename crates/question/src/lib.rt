@@ -1,5 +1,6 @@
 // The question of a card file: the file is read, and its certificates are compared and judged once, at a time that is handed in. How the
 // question is answered is left to the crates above.
+#![tactic(auto)]
 ghost use Rattle.std.specs.Prelude.{◌≡◌};
 ghost use Rattle.card.specs.Card.{file_p};
 ghost use Rattle.question.specs.Question.{time_for, question_of, fresh_question, posed_as, posed};
@@ -9,7 +10,7 @@ use policy::{Judged, judge};
 use rules::Time;
 
 // What a card asks: how many certificates there are, what was compared and judged of them, and the budget.
-#[derive(Drop)]
+#[derive(Clone, Copy)]
 pub struct Question {
     pub judged: Judged,
     pub budget: u64,
@@ -30,14 +31,14 @@ impl Question {
 }
 
 // When a card's certificates are judged: at the time that the card says, or at another.
-#[derive(Drop)]
+#[derive(Clone, Copy)]
 pub enum When {
     Own,
     At(Time),
 }
 
 // A file's question; where the file can't be read, why, and a question of nothing.
-#[derive(Drop)]
+#[derive(Clone, Copy)]
 pub struct Posed {
     pub question: Question,
     pub ended: Ended,

@@ -9,7 +9,7 @@ ghost use Rattle.record.specs.Answers.{opened, dated, headed};
 use extensions::{Flags, has_flag};
 use fields::{CountAt, Fault, NumberAt, byte_at, u64_at};
 
-#[derive(Drop)]
+#[derive(Clone, Copy)]
 pub struct Head {
     pub version: usize,
     pub flags: usize,
@@ -17,13 +17,13 @@ pub struct Head {
     pub not_after: u64,
 }
 
-#[derive(Drop)]
+#[derive(Clone, Copy)]
 pub(crate) enum HeadAt {
     Got { head: Head, next: usize },
     Stop(Fault),
 }
 
-#[derive(Drop)]
+#[derive(Clone, Copy)]
 enum FlagsAt {
     Got {
         version: usize,
@@ -33,7 +33,7 @@ enum FlagsAt {
     Stop(Fault),
 }
 
-#[derive(Drop)]
+#[derive(Clone, Copy)]
 enum DatesAt {
     Got {
         not_before: u64,

@@ -1,6 +1,7 @@
 // A certificate's record as it stands in a card file: its parts in their order, each with its limits, and the reader. A record that was
 // read is four places in the file; what stands there is read again where it is asked for. What a file of records means is left to
 // the crate above.
+#![tactic(auto)]
 mod head;
 mod parties;
 mod strings;
@@ -22,7 +23,7 @@ pub use strings::Strings;
 use strings::{StringsAt, strings_at};
 
 // A record that was read: where it starts, where its two names start, and where what is behind them starts.
-#[derive(Drop)]
+#[derive(Clone, Copy)]
 pub struct Record {
     start: u16,
     issuer: u16,
@@ -186,7 +187,7 @@ impl Record {
     }
 }
 
-#[derive(Drop)]
+#[derive(Clone, Copy)]
 pub enum RecordAt {
     Got { record: Record, next: usize },
     Stop(Fault),

@@ -6,13 +6,13 @@ ghost use Rattle.record.specs.Answers.{named};
 use fields::{Fault, Past};
 use names::name_at;
 
-#[derive(Drop)]
+#[derive(Clone, Copy)]
 pub struct Names {
     pub issuer: usize,
     pub subject: usize,
 }
 
-#[derive(Drop)]
+#[derive(Clone, Copy)]
 pub(crate) enum NamesAt {
     Got { names: Names, next: usize },
     Stop(Fault),

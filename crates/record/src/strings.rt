@@ -6,14 +6,14 @@ ghost use Rattle.record.specs.Answers.{stringed};
 use crate::Record;
 use fields::{Fault, Span, StringAt, string_at};
 
-#[derive(Drop)]
+#[derive(Clone, Copy)]
 pub struct Strings {
     pub serial: Span,
     pub outer: Span,
     pub inner: Span,
 }
 
-#[derive(Drop)]
+#[derive(Clone, Copy)]
 pub(crate) enum StringsAt {
     Got { strings: Strings, next: usize },
     Stop(Fault),

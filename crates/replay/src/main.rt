@@ -5,6 +5,7 @@
 // The files are among those that `terminal` is run on. Their paused runs, for k = 0, 1, 2, one less than the number of simple paths and
 // that number, are recorded from reference/, an ordinary Rust version (`reference waiting`); so are, of 0662 and 0676, those for the first k
 // after which a path of 19 places waits (`reference paused`).
+#![tactic(auto)]
 mod waiting;
 
 use libc::STDOUT_FILENO;

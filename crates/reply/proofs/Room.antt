@@ -14,9 +14,9 @@ pub paste_more : (d : List ℕ) (at : ℕ) (s : List ℕ) (j : ℕ) → at + j <
     → set (paste d at s j) (at + j) (get_or s j 0) ≡ paste d at s (j + 1)
 paste_more d at s j h k = rw add-one (paste-suc d at s j 0 h k)
 
-set-append_add : (xs ys : List ℕ) (n a : ℕ) → set (xs ++ ys) (length xs + n) a ≡ xs ++ set ys n a
-set-append_add [] ys n a = ap (λ (k : ℕ). set ys k a) (zero-add n)
-set-append_add (x ∷ xs) ys n a = ap (λ (k : ℕ). set (x ∷ (xs ++ ys)) k a) (suc-add (length xs) n) ∙ ap (λ (l : List ℕ). x ∷ l) (set-append_add xs ys n a)
+set_append_add : (xs ys : List ℕ) (n a : ℕ) → set (xs ++ ys) (length xs + n) a ≡ xs ++ set ys n a
+set_append_add [] ys n a = ap (λ (k : ℕ). set ys k a) (zero-add n)
+set_append_add (x ∷ xs) ys n a = ap (λ (k : ℕ). set (x ∷ (xs ++ ys)) k a) (suc-add (length xs) n) ∙ ap (λ (l : List ℕ). x ∷ l) (set_append_add xs ys n a)
 
 -- a store into what was pasted whole
 paste_set : (d : List ℕ) (at : ℕ) (k : List ℕ) (n j a : ℕ) → at + n ≤ length d → length k ≡ n → j < n → set (paste d at k n) (at + j) a ≡ paste d at (set k j a) n
@@ -25,7 +25,7 @@ paste_set d at k n j a h l b =
     let t : take n k ≡ k = take_all n k (omega arith) in
     let u : take n (set k j a) ≡ set k j a = take_all n (set k j a) (simp length-set (omega arith)) in
     let s : set (take at d ++ k) (at + j) a ≡ take at d ++ set k j a =
-    ap (λ (q : ℕ). set (take at d ++ k) (q + j) a) (sym f) ∙ set-append_add (take at d) k j a in
+    ap (λ (q : ℕ). set (take at d ++ k) (q + j) a) (sym f) ∙ set_append_add (take at d) k j a in
     rw (t, u) (set-append_left (take at d ++ k) (drop (at + n) d) (at + j) a (simp length-append (omega arith)) ∙ ap (λ (x : List ℕ). x ++ drop (at + n) d) s)
 
 -- a child's two stores, in a slot of any width

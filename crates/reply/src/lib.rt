@@ -1,5 +1,6 @@
 // What is answered: the reply, the path beside it, and the lent room that a search needs. Whoever searches, answers by these; how a search
 // goes about it is left to the crates above.
+#![tactic(auto)]
 mod path;
 
 ghost use Rattle.std.specs.Prelude.{[], ◌≡◌};
@@ -13,7 +14,7 @@ pub use path::Path;
 use places::{BundlePlace, RootPlace};
 
 // The replies to a card file; those from 3 up by the number that the card-file paper gives them.
-#[derive(Drop)]
+#[derive(Clone, Copy)]
 pub enum Reply {
     Accepted { root: RootPlace, steps: u64 },
     Refused { steps: u64 },
@@ -27,7 +28,7 @@ impl Reply {
     pub const NO_ROOM: u8 = 10;
 }
 
-#[derive(Drop)]
+#[derive(Clone, Copy)]
 pub struct Answer {
     pub reply: Reply,
     pub path: Path,
@@ -47,7 +48,7 @@ impl Answer {
 }
 
 // A slot of the lent room: a length, then as many places as a path can have.
-#[derive(Drop)]
+#[derive(Clone, Copy)]
 pub struct Slot {}
 
 impl Slot {

@@ -7,7 +7,7 @@ use places::BundlePlace;
 
 // A path's places, the leaf first; places past its length are 0.
 #[repr(C)]
-#[derive(Drop)]
+#[derive(Clone, Copy)]
 pub struct Path {
     pub length: u8,
     pub places: [BundlePlace; BundlePlace::MOST],

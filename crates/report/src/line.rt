@@ -6,7 +6,7 @@ ghost use Rattle.report.specs.Text.{decimal};
 use places::BundlePlace;
 
 // Bytes, zeros past them, and how many they are.
-#[derive(Drop)]
+#[derive(Clone, Copy)]
 pub struct Line {
     pub bytes: [u8; Line::MOST],
     pub length: usize,

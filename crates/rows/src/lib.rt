@@ -1,9 +1,10 @@
 // A row: a set of places as the bits of one number. A row has room for as many places as any limit asks, so that one width serves all.
+#![tactic(auto)]
 ghost use Rattle.std.specs.Prelude.{◌≡◌};
 ghost use Rattle.rows.specs.Rows.{has, joined, left, common, either, lowest, highest, below};
 
 // The places that a row has room for.
-#[derive(Drop)]
+#[derive(Clone, Copy)]
 pub struct Row {}
 
 impl Row {

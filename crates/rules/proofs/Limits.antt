@@ -1,5 +1,5 @@
 -- A certificate's limit: its path length where it has one (`limit_given`), and else none (`no_limit`), for the proof of `limit`. A path
--- length is a byte (`path-length_byte`). Of as many certificates as a path can have the limit says what the path length allows
+-- length is a byte (`path_length_byte`). Of as many certificates as a path can have the limit says what the path length allows
 -- (`limit_allows`, for policy/proofs/Seats.antt). The limit: specs/Limits.antt; the rule: specs/Rules.antt.
 use Prim.Native.Nat.{ℕ, ◌≤◌}
 use mathlib.Core.Path.{◌≡◌, refl}
@@ -32,9 +32,9 @@ module _ (r : Record) (s : List ℕ) (head : Head) where
   no_limit f = rw f
 
 -- a path length is a byte, and 0 where it can't be read
-pub path-length_byte : (flags : ℕ) (r : Record) (s : List ℕ) (x : Extensions) → x ≡ extensions_of flags r s → x.path_length ≤ 255
+pub path_length_byte : (flags : ℕ) (r : Record) (s : List ℕ) (x : Extensions) → x ≡ extensions_of flags r s → x.path_length ≤ 255
 unfolding extensions_of
-path-length_byte flags r s x q = rw q (go (extensions_p flags s r.rest) refl) where
+path_length_byte flags r s x q = rw q (go (extensions_p flags s r.rest) refl) where
   go : (p : Parsed Extensions) → extensions_p flags s r.rest ≡ p → (value_or no_extensions p).path_length ≤ 255
   go (got y e) h = (extensions_read flags s r.rest y e h).path-length
   go (stop fault) h = omega arith

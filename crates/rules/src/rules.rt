@@ -11,7 +11,7 @@ use record::{Head, Record};
 use text::equal;
 
 // When certificates are judged.
-#[derive(Drop)]
+#[derive(Clone, Copy)]
 pub struct Time {
     now: u64,
 }

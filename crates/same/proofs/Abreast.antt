@@ -17,7 +17,7 @@ use Rattle.text.proofs.Same.{tail}
 use Rattle.same.specs.Values.{together, spaces}
 use Rattle.same.proofs.Alike.{tests_agree}
 use Rattle.same.proofs.Counts.{spaces_most, together_most}
-use Rattle.same.proofs.Rests.{rest, past_start, go_on, parted, gaps, first_through, first-goes_on}
+use Rattle.same.proofs.Rests.{rest, past_start, go_on, parted, gaps, first_through, first_goes_on}
 
 -- the forms are the same where what is left of them from these places is
 pub record Abreast (a b : List ℕ) (i j : ℕ) : Type 0 where
@@ -81,7 +81,7 @@ module _ (a b : List ℕ) (i j n : ℕ) (h : Abreast a b i j) (c : n ≡ togethe
     -- something comes after the first one's spaces, and one of the two has no space here
     pub answers_no : (i' ≡ length a → ⊥) → (i' ≡ i + n) ⊎ (j' ≡ j + n) → false ≡ same (normal a) (normal b)
     answers_no k s =
-        sym (here ∙ first-goes_on a' b' apart (⊎_elim (λ t. inl (omega (arith, u))) (λ t. inr (omega (arith, v))) s) (λ z. k (omega (arith, u, first-length))))
+        sym (here ∙ first_goes_on a' b' apart (⊎_elim (λ t. inl (omega (arith, u))) (λ t. inr (omega (arith, v))) s) (λ z. k (omega (arith, u, first-length))))
 
     pub next : (i' ≡ i + n → ⊥) → (j' ≡ j + n → ⊥) → Abreast a b i' j'
     next s t =

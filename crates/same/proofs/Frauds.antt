@@ -21,6 +21,6 @@ place_by_place true e = omega arith
 place_by_place false e = omega arith
 
 -- bytes left over in the first argument, judged after the second: 00 3F and an empty second argument answered as cut short
-pub left-over_judged_last : (normalise : Bool) → said (Stop CutShort) ≡ asked (same_dn normalise) (whole name_p (0 ∷ 63 ∷ [])) (whole name_p []) → ⊥
+pub left_over_judged_last : (normalise : Bool) → said (Stop CutShort) ≡ asked (same_dn normalise) (whole name_p (0 ∷ 63 ∷ [])) (whole name_p []) → ⊥
 unfolding name_p counted_p count_p many whole
-left-over_judged_last normalise e = omega arith
+left_over_judged_last normalise e = omega arith

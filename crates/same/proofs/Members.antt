@@ -34,11 +34,11 @@ module _ (normalise : Bool) where
   first-is (got a i) (stop r) g e f h = let z : ◌≡◌ {A = ℕ} 0 1 = cc in absurd (omega arith)
   first-is (stop r) y g e f h = let z : ◌≡◌ {A = ℕ} 0 1 = cc in absurd (omega arith)
 
-  first-is_not : (a : Attr) (i : ℕ) (y : Parsed Attr) (l : List Attr) → walk (same_attr normalise) (got a i) y ≡ Differ
+  first_is_not : (a : Attr) (i : ℕ) (y : Parsed Attr) (l : List Attr) → walk (same_attr normalise) (got a i) y ≡ Differ
       → has_read normalise (a ∷ l) y ≡ has_read normalise l y
   unfolding has_read
-  first-is_not a i (got b j) l h = other_found a b l (same_attr normalise a b) refl i j h
-  first-is_not a i (stop r) l h = refl
+  first_is_not a i (got b j) l h = other_found a b l (same_attr normalise a b) refl i j h
+  first_is_not a i (stop r) l h = refl
 
   nothing : (y : Parsed Attr) → has_read normalise [] y ≡ false
   unfolding has_read
@@ -53,7 +53,7 @@ module _ (normalise : Bool) where
 
     pub has_further : 0 < rest → walk (same_attr normalise) (attr_p s at) y ≡ Differ → (a : Attr) (e : ℕ) → attr_p s at ≡ got a e
         → has_read normalise (standing attr_p rest s at) y ≡ has_read normalise (standing attr_p (rest - 1) s e) y
-    has_further more h a e k = rw (standing-some attr_p s rest at more, k) (first-is_not a e y _ (rw k at h))
+    has_further more h a e k = rw (standing-some attr_p s rest at more, k) (first_is_not a e y _ (rw k at h))
 
     pub has_stopped : 0 < rest → (r : ℕ) → attr_p s at ≡ stop r → has_read normalise (standing attr_p rest s at) y ≡ false
     has_stopped more r k = rw (standing-some attr_p s rest at more, k) (nothing y)

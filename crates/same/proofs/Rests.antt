@@ -1,6 +1,6 @@
 -- What two normal forms go on with inside a word, `rest` of what is left of each string, compared by those strings: where they go together
 -- (`go_on`), where both have spaces (`gaps`), where one has only spaces left (`first_through`), and where they part otherwise
--- (`first-goes_on`); and the spaces that a string begins with (`past_start`). By places: Abreast.antt; the form byte by byte:
+-- (`first_goes_on`); and the spaces that a string begins with (`past_start`). By places: Abreast.antt; the form byte by byte:
 -- text/proofs/NormalFrom.antt; the counts: specs/Values.antt.
 use Prim.Native.Nat.{ℕ, zero, suc}
 use mathlib.Core.Path.{◌≡◌, refl, sym, ap, ◌∙◌}
@@ -204,9 +204,9 @@ module _ (x y : ℕ) (a b : List ℕ) where
       go e h false f = refl
 
 -- something comes after the first one's spaces, and not both have a space here
-pub first-goes_on : (a b : List ℕ) → together a b ≡ zero → (spaces a ≡ 0) ⊎ (spaces b ≡ 0) → (spaces a ≡ length a → ⊥)
+pub first_goes_on : (a b : List ℕ) → together a b ≡ zero → (spaces a ≡ 0) ⊎ (spaces b ≡ 0) → (spaces a ≡ length a → ⊥)
     → same (rest a) (rest b) ≡ false
 unfolding same spaces normal_from
-first-goes_on [] b z s n = absurd (n refl)
-first-goes_on (x ∷ a) [] z s n = ⊎_elim (λ e. absurd (n (only-spaces true false (x ∷ a) e))) (λ h. rw h.1) (heads x a)
-first-goes_on (x ∷ a) (y ∷ b) z s n = heads_differ x y a b (parting_bytes x y a b z s) (λ e. n (only-spaces true false (x ∷ a) e))
+first_goes_on [] b z s n = absurd (n refl)
+first_goes_on (x ∷ a) [] z s n = ⊎_elim (λ e. absurd (n (only-spaces true false (x ∷ a) e))) (λ h. rw h.1) (heads x a)
+first_goes_on (x ∷ a) (y ∷ b) z s n = heads_differ x y a b (parting_bytes x y a b z s) (λ e. n (only-spaces true false (x ∷ a) e))

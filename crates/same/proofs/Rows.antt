@@ -10,7 +10,7 @@ use Rattle.fields.specs.Fields.{Parsed, got, stop, count_p, many, counted_p}
 use Rattle.fields.specs.Answers.{passing}
 use Rattle.fields.proofs.Many.{many-length}
 use Rattle.names.specs.Names.{attr_p, rdn_p, rdn_most}
-use Rattle.names.specs.Answers.{rdnBegun}
+use Rattle.names.specs.Answers.{rdn_begun}
 use Rattle.names.specs.declared.read.Rdn.{Rdn}
 use Rattle.names.specs.declared.read.RdnAt.{RdnAt}
 use Rattle.names.specs.declared.read.RdnAt.TheVariants as rdn
@@ -55,10 +55,10 @@ module _ {A : Type 0} (least most : ℕ) (p : List ℕ → ℕ → Parsed A) (s 
 
 -- ---- an RDN that was begun and can be read
 
-pub rdn_row : (s : List ℕ) (at : ℕ) (r : RdnAt) (a : Rdn) (e : ℕ) → rdnBegun r ≡ count_p 1 rdn_most s at → r ≡ rdn.Got a
+pub rdn_row : (s : List ℕ) (at : ℕ) (r : RdnAt) (a : Rdn) (e : ℕ) → rdn_begun r ≡ count_p 1 rdn_most s at → r ≡ rdn.Got a
     → passing (rdn_p s at) ≡ got tt e → Row 1 rdn_most attr_p s at a.count a.first
 unfolding rdn_p
-rdn_row s at r a e h k u = row_read 1 rdn_most attr_p s at _ _ (sym h ∙ ap rdnBegun k) (passing_fine (rdn_p s at) e u)
+rdn_row s at r a e h k u = row_read 1 rdn_most attr_p s at _ _ (sym h ∙ ap rdn_begun k) (passing_fine (rdn_p s at) e u)
 
 -- ---- two rows
 

@@ -12,7 +12,7 @@ use borrow.Author.Tests.{eq-eqb}
 use Rattle.fields.specs.Fields.{Parsed, got, stop, after, count_p, many, counted_p}
 use Rattle.fields.proofs.Many.{many-length}
 use Rattle.same.specs.Same.{places}
-use Rattle.same.specs.Answers.{bothRead}
+use Rattle.same.specs.Answers.{both_read}
 use Rattle.same.specs.Walks.{walk}
 use Rattle.same.specs.declared.walk.Walk.{Walk}
 use Rattle.same.specs.declared.walk.Walk.TheVariants.{On, Differ}
@@ -37,7 +37,7 @@ through_test : (t : Bool) (e f : ℕ) → through (cond t (On e f) Differ) ≡ t
 through_test true e f = refl
 through_test false e f = refl
 
-pub walk_both : {A : Type 0} (q : A → A → Bool) (x y : Parsed A) → through (walk q x y) ≡ bothRead q x y
+pub walk_both : {A : Type 0} (q : A → A → Bool) (x y : Parsed A) → through (walk q x y) ≡ both_read q x y
 walk_both q (got x e) (got y f) = through_test (q x y) e f
 walk_both q (got x e) (stop r) = refl
 walk_both q (stop r) y = refl
@@ -129,10 +129,10 @@ counted_same q p s t least most at bt n m e f h k i =
 -- ---- a count that can't be read, whatever relates the rows
 
 module _ {A : Type 0} (q : List A → List A → Bool) (p : List ℕ → ℕ → Parsed A) (s t : List ℕ) (least most at bt r : ℕ) where
-  pub no_count-left : count_p least most s at ≡ stop r → walk q (counted_p least most p s at) (counted_p least most p t bt) ≡ Differ
+  pub no_count_left : count_p least most s at ≡ stop r → walk q (counted_p least most p s at) (counted_p least most p t bt) ≡ Differ
   unfolding counted_p
-  no_count-left h = rw h
+  no_count_left h = rw h
 
-  pub no_count-right : count_p least most t bt ≡ stop r → walk q (counted_p least most p s at) (counted_p least most p t bt) ≡ Differ
+  pub no_count_right : count_p least most t bt ≡ stop r → walk q (counted_p least most p s at) (counted_p least most p t bt) ≡ Differ
   unfolding counted_p
-  no_count-right h = rw h (stop-right q (counted_p least most p s at) r)
+  no_count_right h = rw h (stop-right q (counted_p least most p s at) r)

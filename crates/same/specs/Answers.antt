@@ -26,15 +26,15 @@ asked q (got x e) (stop r) = r
 asked q (got x e) (got y f) = cond (q x y) 1 0
 
 -- both can be read and q relates them; false if either can't be read
-abbrev pub bothRead : {A : Type 0} → (A → A → Bool) → Parsed A → Parsed A → Bool
-bothRead q (stop r) b = false
-bothRead q (got x e) (stop r) = false
-bothRead q (got x e) (got y f) = q x y
+abbrev pub both_read : {A : Type 0} → (A → A → Bool) → Parsed A → Parsed A → Bool
+both_read q (stop r) b = false
+both_read q (got x e) (stop r) = false
+both_read q (got x e) (got y f) = q x y
 
 -- the name at the first span is the same as the one at the second: the same bytes, or both can be read and are the same in that direction
-unfoldable pub sameNames : Bool → Span → Span → List ℕ → Bool
-sameNames normalise a b s =
-    same (bytes_of a s) (bytes_of b s) || bothRead (same_dn normalise) (name_p s a.start) (name_p s b.start)
+unfoldable pub same_names : Bool → Span → Span → List ℕ → Bool
+same_names normalise a b s =
+    same (bytes_of a s) (bytes_of b s) || both_read (same_dn normalise) (name_p s a.start) (name_p s b.start)
 
 -- a walk that came through is a yes
 abbrev pub came : Walk → ℕ

@@ -2,6 +2,7 @@
 // The relations take whole encoded arguments and answer yes, no, or the fault of the first bad argument.
 // Two names of one file are compared where they stand, by `same_names`; an RDN is searched for the attributes of another by
 // `has_name` and `matched_walk`. What lies under what is left to the crate above.
+#![tactic(auto)]
 mod matching;
 mod related;
 mod values;

@@ -11,7 +11,7 @@ use fields::{Fault, Past};
 use names::{whole_attribute, whole_name, whole_rdn};
 
 // Whether two arguments are related, or why one of them can't be read.
-#[derive(Drop)]
+#[derive(Clone, Copy)]
 pub enum Related {
     No,
     Yes,

@@ -2,9 +2,9 @@
 ghost use Rattle.std.specs.Prelude.{◌≡◌};
 ghost use Rattle.fields.specs.Fields.{many};
 ghost use Rattle.names.specs.Names.{attr_p, rdn_p, name_p};
-ghost use Rattle.names.specs.Answers.{attrOf};
+ghost use Rattle.names.specs.Answers.{attr_of};
 ghost use Rattle.same.specs.Same.{places, same_attr, same_rdn, same_dn};
-ghost use Rattle.same.specs.Answers.{sameNames};
+ghost use Rattle.same.specs.Answers.{same_names};
 ghost use Rattle.same.specs.Walks.{walk};
 
 use crate::matching::matched_walk;
@@ -14,7 +14,7 @@ use names::{Attribute, AttributeAt, NameAt, RdnAt, attribute_at, name_begins, rd
 use text::equal;
 
 // Two things are related and end here; or they are not, or one of them can't be read.
-#[derive(Drop)]
+#[derive(Clone, Copy)]
 pub enum Walk {
     On { left: usize, right: usize },
     Differ,
@@ -23,7 +23,7 @@ pub enum Walk {
 // Whether the name at a span of a file is the same as the one at another, in that direction: the same bytes are, and where they differ both
 // are walked once.
 pub fn same_names(file: &[u8], a: Span, b: Span, normalise: bool) -> bool
-    ensures { result ≡ sameNames normalise a b file.now }
+    ensures { result ≡ same_names normalise a b file.now }
 {
     if equal(part(file, a), part(file, b)) {
         return true;
@@ -116,7 +116,7 @@ pub(crate) fn attr_walk(s: &[u8], at: usize, t: &[u8], bt: usize, normalise: boo
 
 // Whether two attributes that were read are the same. Equal values need no walk, since their normal forms are equal too.
 fn same_attribute(s: &[u8], a: Attribute, t: &[u8], b: Attribute, normalise: bool) -> bool
-    ensures { result ≡ same_attr normalise (attrOf a s.now) (attrOf b t.now) }
+    ensures { result ≡ same_attr normalise (attr_of a s.now) (attr_of b t.now) }
 {
     if !equal(part(s, a.oid), part(t, b.oid)) {
         return false;

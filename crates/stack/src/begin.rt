@@ -11,7 +11,7 @@ use question::{Question, When, pose};
 use reply::{Slot, fault};
 
 // What a search goes by: who issued whom, who may stand where, and where it begins.
-#[derive(Drop)]
+#[derive(Clone, Copy)]
 pub(crate) struct Begun {
     pub(crate) rows: [u64; BundlePlace::MOST],
     pub(crate) roots: [u64; BundlePlace::MOST],

@@ -14,7 +14,7 @@ use reply::{Answer, Path, Reply};
 use rows::{lowest, with, without};
 
 // What is asked: how many certificates there are, the budget, and whether what waits stays in the records at the end.
-#[derive(Drop)]
+#[derive(Clone, Copy)]
 pub(crate) struct Terms {
     pub(crate) budget: u64,
     pub(crate) size: u8,
@@ -23,7 +23,7 @@ pub(crate) struct Terms {
 
 // While it goes on, a turn puts a path in a record or takes one from it. After the path that is put, its parent goes on by the places of
 // the row. Once the answer is known, what is still to be put are the last children, and then zeros.
-#[derive(Drop)]
+#[derive(Clone, Copy)]
 pub(crate) struct State {
     pub(crate) going: bool,
     pub(crate) puts: bool,

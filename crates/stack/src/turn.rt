@@ -15,7 +15,7 @@ use reply::{Answer, Path, Reply};
 use rows::{below, lowest, shared, with, without};
 
 // A path looked at: its last place, the places that it leaves free, and how it stands.
-#[derive(Drop)]
+#[derive(Clone, Copy)]
 struct Seen {
     last: u8,
     free: u64,

@@ -10,7 +10,7 @@ use Rattle.fields.specs.Fields.{Parsed, got, stop, count_p, counted_p, whole}
 use Rattle.names.specs.Names.{attr_p, rdn_p, rdn_most}
 use Rattle.names.proofs.Judged.{Holds}
 use Rattle.same.specs.Matching.{rdn_has_name}
-use Rattle.same.specs.Answers.{asked, bothRead}
+use Rattle.same.specs.Answers.{asked, both_read}
 use Rattle.same.specs.Rows.{Fine, standing, has_read}
 use Rattle.same.proofs.Rows.{row_read}
 
@@ -19,7 +19,7 @@ fine p s e x = rw x.read tt
 
 -- both are fine, and what was found of the two is t
 pub found : {A : Type 0} (p : List ℕ → ℕ → Parsed A) (rel : A → A → Bool) (a b : List ℕ) (e f : ℕ) → Holds p a e → Holds p b f
-    → (t : Bool) → t ≡ bothRead rel (p a 0) (p b 0) → cond t 1 0 ≡ asked rel (whole p a) (whole p b)
+    → (t : Bool) → t ≡ both_read rel (p a 0) (p b 0) → cond t 1 0 ≡ asked rel (whole p a) (whole p b)
 found p rel a b e f x y t h = rw (h, x.read, y.read, x.is, y.is)
 
 -- ---- an RDN and an attribute
@@ -34,9 +34,9 @@ has_found normalise a b e f x y n first c t h =
     rw (h, row.stand, i, y.read, x.is, y.is)
 
 -- an RDN that fills its bytes was begun
-pub rdn_begun : (a : List ℕ) (e : ℕ) → Holds rdn_p a e → (r : ℕ) → count_p 1 rdn_most a 0 ≡ stop r → ⊥
+pub rdn_begun_lem : (a : List ℕ) (e : ℕ) → Holds rdn_p a e → (r : ℕ) → count_p 1 rdn_most a 0 ≡ stop r → ⊥
 unfolding rdn_p counted_p
-rdn_begun a e x r h =
+rdn_begun_lem a e x r h =
     let k : stop r ≡ got x.thing e = rw h at x.read in
     let z : ◌≡◌ {A = ℕ} 0 1 = cc in
     omega arith

@@ -11,7 +11,7 @@ use borrow.Author.Tests.{le-leb}
 use Rattle.fields.specs.Fields.{Parsed, got, count_p, many, counted_p}
 use Rattle.fields.proofs.Many.{many_prefix}
 use Rattle.names.specs.Names.{rdn_p, name_p, name_most}
-use Rattle.names.specs.Answers.{nameBegun}
+use Rattle.names.specs.Answers.{name_begun}
 use Rattle.names.specs.declared.read.Name.{Name}
 use Rattle.names.specs.declared.read.NameAt.{NameAt}
 use Rattle.names.specs.declared.read.NameAt.TheVariants as name
@@ -22,10 +22,10 @@ use Rattle.same.proofs.Walks.{through, walk_both, tested}
 use Rattle.same.proofs.Rows.{Row, row_read}
 
 -- a name that was begun and can be read
-pub name_row : (s : List ℕ) (at : ℕ) (r : NameAt) (a : Name) → nameBegun r ≡ count_p 0 name_most s at → r ≡ name.Got a
+pub name_row : (s : List ℕ) (at : ℕ) (r : NameAt) (a : Name) → name_begun r ≡ count_p 0 name_most s at → r ≡ name.Got a
     → Fine (name_p s at) → Row 0 name_most rdn_p s at a.count a.first
 unfolding name_p
-name_row s at r a h k u = row_read 0 name_most rdn_p s at _ _ (sym h ∙ ap nameBegun k) u
+name_row s at r a h k u = row_read 0 name_most rdn_p s at _ _ (sym h ∙ ap name_begun k) u
 
 -- what stands past the first list's places does not count
 places-take : {A : Type 0} (q : A → A → Bool) (x y : List A) → places q x (take (length x) y) ≡ places q x y

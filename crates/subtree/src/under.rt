@@ -3,7 +3,7 @@ ghost use Rattle.std.specs.Prelude.{◌≡◌};
 ghost use Rattle.fields.specs.Fields.{many};
 ghost use Rattle.names.specs.Names.{rdn_p, name_p};
 ghost use Rattle.same.specs.Same.{places};
-ghost use Rattle.same.specs.Answers.{bothRead};
+ghost use Rattle.same.specs.Answers.{both_read};
 ghost use Rattle.same.specs.Walks.{walk};
 ghost use Rattle.same.specs.Rows.{Fine};
 ghost use Rattle.subtree.specs.Subtree.{is_subtree_rdn, is_subtree_of};
@@ -52,7 +52,7 @@ fn subtree_rdns_walk(s: &[u8], at: usize, t: &[u8], bt: usize, n: usize, normali
 // Whether the name s is a subtree of the name t; both were read through.
 pub(crate) fn subtree(s: &[u8], t: &[u8], normalise: bool) -> bool
     requires { Fine (name_p s.now 0) × Fine (name_p t.now 0) }
-    ensures { result ≡ bothRead (is_subtree_of normalise) (name_p s.now 0) (name_p t.now 0) }
+    ensures { result ≡ both_read (is_subtree_of normalise) (name_p s.now 0) (name_p t.now 0) }
 {
     let NameAt::Got(low) = name_begins(s, 0) else {
         return false;

@@ -1,5 +1,6 @@
 // The task of a card file: now, budget, purpose and host, read where the verdicts end. What is done with them is left to the crates
 // above.
+#![tactic(auto)]
 ghost use Rattle.std.specs.Prelude.{◌≡◌};
 ghost use Rattle.fields.specs.Fields.{stop, after};
 ghost use Rattle.fields.specs.Answers.{number, passed, passing, held, Emptied};
@@ -12,7 +13,7 @@ use fields::{
 };
 
 // The host that is asked; none where its name has no bytes.
-#[derive(Drop)]
+#[derive(Clone, Copy)]
 pub struct Host {
     pub name: Span,
 }
@@ -32,7 +33,7 @@ impl Host {
     }
 }
 
-#[derive(Drop)]
+#[derive(Clone, Copy)]
 pub struct Task {
     pub now: u64,
     pub budget: u64,
@@ -57,13 +58,13 @@ impl Task {
 }
 
 // The task and the place past it; with a fault nothing is asked.
-#[derive(Drop)]
+#[derive(Clone, Copy)]
 pub struct TaskRead {
     pub past: Past,
     pub task: Task,
 }
 
-#[derive(Drop)]
+#[derive(Clone, Copy)]
 enum TimesAt {
     Got { now: u64, budget: u64, next: usize },
     Stop(Fault),

@@ -7,6 +7,7 @@
 // 0560 to 0639 are about self-issued certificates: up to 0599 the line would be another if path lengths counted them, from 0600 up the same.
 // Those from 0640 up are about how many certificates there may be: up to 0679 the file counts more than 16 in the bundle or more than 32
 // roots, from 0680 up no more than those.
+#![tactic(auto)]
 use window::serve;
 
 fn main() {

@@ -5,7 +5,7 @@ ghost use Rattle.text.specs.Normalize.{form_of, normalized, written};
 use crate::lower;
 
 // The normal form's length, or that the lent room is shorter than the string.
-#[derive(Drop)]
+#[derive(Clone, Copy)]
 pub enum Normalized {
     Length(usize),
     NoRoom,

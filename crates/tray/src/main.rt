@@ -11,6 +11,7 @@
 //
 // An answer is the label, the line that the terminal writes for such an answer, and the lent room as the search leaves it: the paths in its lowest slots,
 // then how many bytes are zero, how many are # and how many are left.
+#![tactic(auto)]
 mod ask;
 mod lines;
 mod show;

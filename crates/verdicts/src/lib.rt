@@ -1,5 +1,6 @@
 // The verdicts of a card file: who signed whom, a row for each issuer and a column for each subject, by where the first stands.
 // They are read where the bundle ends; what certificates stand at these places is left to the crates above.
+#![tactic(auto)]
 ghost use Rattle.std.specs.Prelude.{◌≡◌, ◌+◌, ◌*◌, ◌≤◌, length};
 ghost use Rattle.fields.specs.Fields.{got, stop, after, many};
 ghost use Rattle.fields.specs.Answers.{number, passed, held, Emptied};
@@ -11,7 +12,7 @@ use fields::{Fault, NumberAt, Past, u16_at};
 use places::{BundlePlace, RootPlace};
 
 // Verdicts on so many roots and so large a bundle, from the first one on.
-#[derive(Drop)]
+#[derive(Clone, Copy)]
 pub struct Verdicts {
     pub roots: u8,
     pub bundle: u8,
@@ -87,7 +88,7 @@ fn signed_at(verdicts: Verdicts, file: &[u8], row: usize, column: usize) -> bool
 }
 
 // The verdicts and the place past them; no verdicts with a fault.
-#[derive(Drop)]
+#[derive(Clone, Copy)]
 pub struct VerdictsRead {
     pub past: Past,
     pub verdicts: Verdicts,

@@ -1,7 +1,7 @@
 // Reading to the end.
 ghost use Rattle.window.specs.Ends.{Ends};
 
-#[derive(Drop)]
+#[derive(Clone, Copy)]
 pub(crate) enum Input {
     // So many bytes: all that there are, or as many as there is room for.
     Whole(usize),

@@ -1,6 +1,7 @@
 // Card files are handed in, and lines handed out. With no argument a card file is read from standard input and its line written. With
 // arguments each file that one names is read, in their order, and its line begins with the name; `-` names standard input. A file that
 // can't be read gets no line, but a message on standard error. What the line says is settled in `report`; here it is brought out.
+#![tactic(auto)]
 mod input;
 
 use input::{Input, read_to_end};

@@ -3,7 +3,7 @@ use borrow.Author.Rules.{rules}
 use mathlib.Core.Path.{ap, ◌∙◌}
 use Prim.Native.Nat.{◌≤◌}
 use native.Mathlib.Omega.{arith}
-use Rattle.desk.proofs.Asked.{asking, reading_asks, host_ordered}
+use Rattle.desk.proofs.TaskAsked.{asking, reading_asks, host_ordered}
 use Rattle.desk.proofs.tasks.savuneco_task.Statement.{statement}
 use Rattle.desk.proofs.tasks.savuneco_task.Tie as tie
 

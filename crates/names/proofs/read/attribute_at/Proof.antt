@@ -6,24 +6,24 @@ use Rattle.fields.specs.Answers.{spanned}
 use Rattle.fields.specs.Fields.{got, stop}
 use Rattle.fields.specs.Spans.{span_p}
 use Rattle.fields.specs.declared.string.Span.{Span}
-use Rattle.names.specs.Answers.{spansP}
+use Rattle.names.specs.Answers.{spans_p}
 use borrow.Author.Rules.{rules}
 use Rattle.names.proofs.read.attribute_at.Statement.{statement}
 use Rattle.names.proofs.read.attribute_at.Tie as tie
 
 module _ (oid-least oid-most value-least value-most : ℕ) (s : List ℕ) (at : ℕ) where
-  no-oid : {r : ℕ} → span_p oid-least oid-most s at ≡ stop r → spansP oid-least oid-most value-least value-most s at ≡ stop r
-  unfolding spansP
+  no-oid : {r : ℕ} → span_p oid-least oid-most s at ≡ stop r → spans_p oid-least oid-most value-least value-most s at ≡ stop r
+  unfolding spans_p
   no-oid h = rw h
 
   module _ {oid : Span} {e : ℕ} (h : span_p oid-least oid-most s at ≡ got oid e) where
-    no_value : {r : ℕ} → span_p value-least value-most s e ≡ stop r → spansP oid-least oid-most value-least value-most s at ≡ stop r
-    unfolding spansP
+    no_value : {r : ℕ} → span_p value-least value-most s e ≡ stop r → spans_p oid-least oid-most value-least value-most s at ≡ stop r
+    unfolding spans_p
     no_value k = rw (h, k)
 
     both : {value : Span} {f : ℕ} → span_p value-least value-most s e ≡ got value f
-        → spansP oid-least oid-most value-least value-most s at ≡ got (record { oid = oid; value = value }) f
-    unfolding spansP
+        → spans_p oid-least oid-most value-least value-most s at ≡ got (record { oid = oid; value = value }) f
+    unfolding spans_p
     both k = rw (h, k)
 
 string-at-requires : tie.Need-string-at-requires

@@ -1,7 +1,7 @@
 -- `name_at` ends where the RDNs end that its count announces.
 use mathlib.Core.Path.{sym, ap, ◌∙◌}
 use Rattle.names.specs.Names.{name_p}
-use Rattle.names.specs.Answers.{nameBegun}
+use Rattle.names.specs.Answers.{name_begun}
 use borrow.Author.Rules.{rules}
 use Rattle.names.proofs.Counted.{counted_ends, uncounted}
 use Rattle.names.proofs.read.name_at.Statement.{statement}
@@ -20,14 +20,14 @@ returns : tie.Need-returns
 unfolding name_p
 returns c =
     let n = c.before.before in
-    c.rdns-at.ensures ∙ sym (counted_ends _ _ _ _ _ (sym n.before.before.name-begins.ensures ∙ ap nameBegun n.name.given.1))
+    c.rdns-at.ensures ∙ sym (counted_ends _ _ _ _ _ (sym n.before.before.name-begins.ensures ∙ ap name_begun n.name.given.1))
 
 enum-known-fault : tie.Need-enum-known-fault
 enum-known-fault c = search rules
 
 returns-2 : tie.Need-returns-2
 unfolding name_p
-returns-2 c = sym (uncounted _ _ _ _ _ (sym c.before.before.before.name-begins.ensures ∙ ap nameBegun c.before.fault.given.1))
+returns-2 c = sym (uncounted _ _ _ _ _ (sym c.before.before.before.name-begins.ensures ∙ ap name_begun c.before.fault.given.1))
 
 pub name-at-spec : {M : Type 1} → statement M
 name-at-spec =

@@ -2,7 +2,7 @@
 use mathlib.Core.Path.{sym, ◌∙◌}
 use native.Mathlib.Omega.{arith}
 use borrow.Author.Rules.{rules}
-use Rattle.rules.proofs.Limits.{limit_given, no_limit, path-length_byte}
+use Rattle.rules.proofs.Limits.{limit_given, no_limit, path_length_byte}
 use Rattle.rules.proofs.rules.limit.Statement.{statement}
 use Rattle.rules.proofs.rules.limit.Tie as tie
 
@@ -13,7 +13,7 @@ extensions-requires : tie.Need-extensions-requires
 extensions-requires c κs = search rules
 
 cast-result : tie.Need-overflow-cast-result
-cast-result c = omega (arith, path-length_byte _ _ _ _ c.before.extensions.ensures)
+cast-result c = omega (arith, path_length_byte _ _ _ _ c.before.extensions.ensures)
 
 returns : tie.Need-returns
 returns c =

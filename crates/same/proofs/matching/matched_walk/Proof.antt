@@ -3,9 +3,9 @@ use mathlib.Core.Path.{sym, ap, ◌∙◌}
 use Rattle.fields.specs.Answers.{passed}
 use Rattle.fields.proofs.Ends.{passing_stops}
 use Rattle.names.specs.Names.{rdn_p}
-use Rattle.names.specs.Answers.{rdnBegun}
+use Rattle.names.specs.Answers.{rdn_begun}
 use Rattle.same.specs.Matching.{matched}
-use Rattle.same.proofs.Walks.{stop-right, no_count-left, no_count-right}
+use Rattle.same.proofs.Walks.{stop-right, no_count_left, no_count_right}
 use Rattle.same.proofs.Rows.{rdn_row, standing_walked}
 use borrow.Author.Rules.{rules}
 use Rattle.same.proofs.matching.matched_walk.Statement.{statement}
@@ -22,7 +22,7 @@ enum_told c = search rules
 
 returns : tie.Need-returns
 unfolding rdn_p
-returns c = sym (no_count-left _ _ _ _ _ _ _ _ _ (sym c.before.before.rdn-begins.ensures ∙ ap rdnBegun c.enum_told.given.1))
+returns c = sym (no_count_left _ _ _ _ _ _ _ _ _ (sym c.before.before.rdn-begins.ensures ∙ ap rdn_begun c.enum_told.given.1))
 
 rdn-begins-requires-2 : tie.Need-rdn-begins-requires-2
 rdn-begins-requires-2 c κs = search rules
@@ -35,7 +35,7 @@ enum-told-2 c = search rules
 
 returns-2 : tie.Need-returns-2
 unfolding rdn_p
-returns-2 c = sym (no_count-right _ _ _ _ _ _ _ _ _ (sym c.before.before.rdn-begins2.ensures ∙ ap rdnBegun c.enum-told2.given.1))
+returns-2 c = sym (no_count_right _ _ _ _ _ _ _ _ _ (sym c.before.before.rdn-begins2.ensures ∙ ap rdn_begun c.enum-told2.given.1))
 
 rdn-at-requires : tie.Need-rdn-at-requires
 rdn-at-requires c κs = search rules
@@ -57,7 +57,7 @@ returns-3 c =
     let a = b.before.before.before.before in
     let right-ends = sym r.before.before.rdn-at.ensures ∙ ap passed r.right.given.1 in
     let right = rdn_row _ _ _ _ _ b.before.before.rdn-begins2.ensures b.b.given.1 right-ends in
-    standing_walked right (matched _) _ _ _ _ _ _ (sym a.before.before.rdn-begins.ensures ∙ ap rdnBegun a.a.given.1) right-ends
+    standing_walked right (matched _) _ _ _ _ _ _ (sym a.before.before.rdn-begins.ensures ∙ ap rdn_begun a.a.given.1) right-ends
     c.matches-walk.ensures
 
 returns-4 : tie.Need-returns-4

@@ -2,10 +2,10 @@
 -- no longer be bad is never taken.
 use mathlib.Core.Path.{sym, ap, ◌∙◌}
 use Rattle.names.specs.Names.{attr_p, rdn_p}
-use Rattle.names.specs.Answers.{rdnBegun}
+use Rattle.names.specs.Answers.{rdn_begun}
 use Rattle.names.proofs.Judged.{holds}
 use Rattle.same.proofs.Asked.{first_bad, second_bad}
-use Rattle.subtree.proofs.Found.{has_found, rdn_begun}
+use Rattle.subtree.proofs.Found.{has_found, rdn_begun_lem}
 use borrow.Author.Rules.{rules}
 use Rattle.subtree.proofs.related.rdn_has_name.Statement.{statement}
 use Rattle.subtree.proofs.related.rdn_has_name.Tie as tie
@@ -56,7 +56,7 @@ returns-3 c =
     let b = n.before.before.before in
     let a = b.before.before.before in
     has_found _ _ _ _ _ (holds rdn_p _ _ a.before.before.whole-rdn.ensures _ a.enum_told.given.1) (holds attr_p _ _ b.before.before.whole-attribute.ensures _ b.enum-told2.given.1) _ _
-    (sym n.before.before.rdn-begins.ensures ∙ ap rdnBegun n.a.given.1) _ (sym c.if1.true ∙ c.before.has-name.ensures)
+    (sym n.before.before.rdn-begins.ensures ∙ ap rdn_begun n.a.given.1) _ (sym c.if1.true ∙ c.before.has-name.ensures)
 
 returns-4 : tie.Need-returns-4
 returns-4 c =
@@ -64,13 +64,13 @@ returns-4 c =
     let b = n.before.before.before in
     let a = b.before.before.before in
     has_found _ _ _ _ _ (holds rdn_p _ _ a.before.before.whole-rdn.ensures _ a.enum_told.given.1) (holds attr_p _ _ b.before.before.whole-attribute.ensures _ b.enum-told2.given.1) _ _
-    (sym n.before.before.rdn-begins.ensures ∙ ap rdnBegun n.a.given.1) _ (sym c.if1.false ∙ c.before.has-name.ensures)
+    (sym n.before.before.rdn-begins.ensures ∙ ap rdn_begun n.a.given.1) _ (sym c.if1.false ∙ c.before.has-name.ensures)
 
 returns-5 : tie.Need-returns-5
 returns-5 c =
     let t = c.before.before.before in
     let a = t.before.before.before.before in
-    absurd (rdn_begun _ _ (holds rdn_p _ _ a.before.before.whole-rdn.ensures _ a.enum_told.given.1) _ (sym t.rdn-begins.ensures ∙ ap rdnBegun c.before.fault3.given.1))
+    absurd (rdn_begun_lem _ _ (holds rdn_p _ _ a.before.before.whole-rdn.ensures _ a.enum_told.given.1) _ (sym t.rdn-begins.ensures ∙ ap rdn_begun c.before.fault3.given.1))
 
 pub rdn-has-name-spec : {M : Type 1} → statement M
 rdn-has-name-spec =

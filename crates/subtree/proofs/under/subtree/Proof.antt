@@ -4,9 +4,9 @@ use lib.Dec.{leb}
 use borrow.Author.Tests.{lt-leb}
 use Rattle.names.specs.Names.{rdn_p, name_p, name_most}
 use Rattle.subtree.specs.Subtree.{is_subtree_rdn, is_subtree_of}
-use Rattle.names.specs.Answers.{nameBegun}
+use Rattle.names.specs.Answers.{name_begun}
 use Rattle.same.specs.Same.{places}
-use Rattle.same.proofs.Walks.{through, walk_both, counted_fails, no_count-left, no_count-right}
+use Rattle.same.proofs.Walks.{through, walk_both, counted_fails, no_count_left, no_count_right}
 use Rattle.subtree.proofs.Rows.{name_row, front_judged}
 use borrow.Author.Rules.{rules}
 use Rattle.subtree.proofs.under.subtree.Statement.{statement}
@@ -24,8 +24,8 @@ enum_told c = search rules
 returns : tie.Need-returns
 unfolding name_p
 returns c =
-    let left = sym c.before.before.name-begins.ensures ∙ ap nameBegun c.enum_told.given.1 in
-    ap through (sym (no_count-left (is_subtree_of _) rdn_p _ _ 0 name_most 0 0 _ left)) ∙ walk_both (is_subtree_of _) (name_p _ _) (name_p _ _)
+    let left = sym c.before.before.name-begins.ensures ∙ ap name_begun c.enum_told.given.1 in
+    ap through (sym (no_count_left (is_subtree_of _) rdn_p _ _ 0 name_most 0 0 _ left)) ∙ walk_both (is_subtree_of _) (name_p _ _) (name_p _ _)
 
 name-begins-requires-2 : tie.Need-name-begins-requires-2
 name-begins-requires-2 c κs = search rules
@@ -39,8 +39,8 @@ enum-told-2 c = search rules
 returns-2 : tie.Need-returns-2
 unfolding name_p
 returns-2 c =
-    let right = sym c.before.before.name-begins2.ensures ∙ ap nameBegun c.enum-told2.given.1 in
-    ap through (sym (no_count-right (is_subtree_of _) rdn_p _ _ 0 name_most 0 0 _ right)) ∙ walk_both (is_subtree_of _) (name_p _ _) (name_p _ _)
+    let right = sym c.before.before.name-begins2.ensures ∙ ap name_begun c.enum-told2.given.1 in
+    ap through (sym (no_count_right (is_subtree_of _) rdn_p _ _ 0 name_most 0 0 _ right)) ∙ walk_both (is_subtree_of _) (name_p _ _) (name_p _ _)
 
 returns-3 : tie.Need-returns-3
 unfolding name_p is_subtree_of
@@ -49,8 +49,8 @@ returns-3 c =
     let a = b.before.before.before.before in
     ap through
     (sym (counted_fails leb (places (is_subtree_rdn _)) rdn_p _ _ 0 name_most 0 0 _ _ _ _
-    (sym a.before.before.name-begins.ensures ∙ ap nameBegun a.low.given.1)
-    (sym b.before.before.name-begins2.ensures ∙ ap nameBegun b.high.given.1)
+    (sym a.before.before.name-begins.ensures ∙ ap name_begun a.low.given.1)
+    (sym b.before.before.name-begins2.ensures ∙ ap name_begun b.high.given.1)
     (lt-leb _ _ c.if1.true)))
     ∙ walk_both (is_subtree_of _) (name_p _ _) (name_p _ _)
 
