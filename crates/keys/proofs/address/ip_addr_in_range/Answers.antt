@@ -6,6 +6,7 @@ use lib.ListN.{length-take, length-drop}
 use Rattle.text.proofs.Same.{tail}
 use Rattle.keys.proofs.Range.{outside, inside}
 use Rattle.keys.proofs.address.ip_addr_in_range.Goals as goal
+use Rattle.keys.proofs.address.ip_addr_in_range.Goals.{then-width-ne-V4+else-width-ne-V6, else-width-ne-V4}
 
 pub returns-then-width-ne-V6 : goal.returns-then-width-ne-V6
 returns-then-width-ne-V6 c = sym (outside _ _ (λ r a. omega arith) (λ r a. omega arith))
@@ -20,4 +21,5 @@ pub agrees-requires : goal.agrees-requires
 agrees-requires c = (simp (length-take, length-drop) (omega arith), simp length-take (omega arith))
 
 pub returns : goal.returns
-returns c = rw tail at c.agrees.ensures ∙ sym (inside _ _ c.if-range-width.false (⊎_elim (λ w. inr w.1.left) (λ w. inl w.left) c.if-width-ne-V4.branch))
+returns c = rw tail at c.agrees.ensures ∙ sym (inside _ _ c.if-range-width.false
+    (elim c.if-width-ne-V4.branch [ then-width-ne-V4+else-width-ne-V6 w ↦ inr w.if-width-ne-V6.false | else-width-ne-V4 w ↦ inl w.if-width-ne-V4.false ]))

@@ -17,7 +17,7 @@ loop-j-init c = (rw c.within-n.ensures (min-le_right c.args.length bundle_most),
 pub loop-j-preserved : goal.loop-j-preserved
 loop-j-preserved c =
     let l = c.loop-j in
-    let s = c.args.t1 in
+    let s = c.args.numbers in
     let e : length s ≡ bundle_most = search rules in
     let h : l.j < length s = omega arith in
     let k : l.j < bundle_most = omega arith in
@@ -28,7 +28,7 @@ pub returns : goal.returns
 returns c =
     let l = c.loop-j in
     let a = c.args in
-    let e : length a.t1 ≡ bundle_most = search rules in
+    let e : length a.numbers ≡ bundle_most = search rules in
     let k : l.j ≡ c.within-n.result = omega arith in
-    path_shown_lem a.t1 c.within-n.result l.places (omega arith) (l.invariant.2 ∙ rw k)
-    ∙ ap path_shown (ap (λ n. take n a.t1) c.within-n.ensures ∙ take-few bundle_most a.length a.t1 e)
+    path_shown_lem a.numbers c.within-n.result l.places (omega arith) (l.invariant.2 ∙ rw k)
+    ∙ ap path_shown (ap (λ n. take n a.numbers) c.within-n.ensures ∙ take-few bundle_most a.length a.numbers e)
