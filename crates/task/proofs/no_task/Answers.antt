@@ -3,6 +3,6 @@ use mathlib.Core.Path.{refl}
 use Rattle.fields.specs.Answers.{held}
 use Rattle.task.proofs.no_task.Goals as goal
 
-pub returns : goal.returns
+pub returns-clause-task_value : goal.returns-clause-task_value
 unfolding held
-returns c = record { task_value = refl; emptied = c.new.ensures }
+returns-clause-task_value c = refl

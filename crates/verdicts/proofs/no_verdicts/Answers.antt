@@ -3,6 +3,6 @@ use mathlib.Core.Path.{refl}
 use Rattle.fields.specs.Answers.{held}
 use Rattle.verdicts.proofs.no_verdicts.Goals as goal
 
-pub returns : goal.returns
+pub returns-clause-verdicts_value : goal.returns-clause-verdicts_value
 unfolding held
-returns c = record { verdicts_value = refl; emptied = c.new.ensures }
+returns-clause-verdicts_value c = refl

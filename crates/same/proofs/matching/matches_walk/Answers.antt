@@ -12,13 +12,13 @@ loop-rest-init c = refl
 pub returns-then-not-has_name : goal.returns-then-not-has_name
 returns-then-not-has_name c =
     let x = attr_read _ _ _ c.attribute_at.ensures _ c.in-Got.is in
-    let no = sym (has_read_lem _ _ _ _ _ x) ∙ sym c.has_name.ensures ∙ not-true c.has_name.result c.if-not-has_name.true in
+    let no = sym (has_read_lem _ _ _ _ _ x) ∙ sym c.has_name.ensures ∙ c.if-not-has_name.true in
     sym (c.loop-rest.invariant ∙ sought_first _ _ _ _ _ _ c.loop-rest-test.true _ _ x false no)
 
 pub loop-rest-preserved : goal.loop-rest-preserved
 loop-rest-preserved c =
     let x = attr_read _ _ _ c.attribute_at.ensures _ c.in-Got.is in
-    let yes = sym (has_read_lem _ _ _ _ _ x) ∙ sym c.has_name.ensures ∙ not-false c.has_name.result c.if-not-has_name.false in
+    let yes = sym (has_read_lem _ _ _ _ _ x) ∙ sym c.has_name.ensures ∙ c.if-not-has_name.false in
     c.loop-rest.invariant ∙ sought_first _ _ _ _ _ _ c.loop-rest-test.true _ _ x true yes
 
 pub returns-in-Stop : goal.returns-in-Stop

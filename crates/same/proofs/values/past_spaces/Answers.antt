@@ -11,11 +11,11 @@ loop-i-init c = refl
 
 pub loop-i-preserved : goal.loop-i-preserved
 loop-i-preserved c =
-    c.loop-i.invariant ∙ space_on _ _ c.loop-i-test.true (eqb-true _ _ c.if-s-i-eq32.true)
+    c.loop-i.invariant ∙ space_on _ _ c.loop-i-test.true c.if-s-i-eq32.true
 
 pub returns-else-s-i-eq32 : goal.returns-else-s-i-eq32
 returns-else-s-i-eq32 c =
-    sym (c.loop-i.invariant ∙ no_space _ _ c.loop-i-test.true (eqb-false _ _ c.if-s-i-eq32.false))
+    sym (c.loop-i.invariant ∙ no_space _ _ c.loop-i-test.true c.if-s-i-eq32.false)
 
 pub returns-after-loop-i : goal.returns-after-loop-i
 returns-after-loop-i c = sym (c.loop-i.invariant ∙ no_more _ _ c.loop-i-test.false)

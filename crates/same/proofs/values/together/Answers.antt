@@ -12,18 +12,18 @@ loop-n-init c = omega arith
 
 pub returns-then-x-eq32 : goal.returns-then-x-eq32
 returns-then-x-eq32 c =
-    sym (c.loop-n.invariant ∙ at_space _ _ _ c.loop-n-test.true (ltb-true _ _ c.if-n-b.true) c.if-x-eq32.true)
+    sym (c.loop-n.invariant ∙ at_space _ _ _ c.loop-n-test.true c.if-n-b.true c.if-x-eq32.true)
 
 pub returns-then-not-alike : goal.returns-then-not-alike
 returns-then-not-alike c =
-    sym (c.loop-n.invariant ∙ at_odds _ _ _ c.loop-n-test.true (ltb-true _ _ c.if-n-b.true) c.if-x-eq32.false (sym c.alike.ensures ∙ c.if-not-alike.true))
+    sym (c.loop-n.invariant ∙ at_odds _ _ _ c.loop-n-test.true c.if-n-b.true c.if-x-eq32.false (sym c.alike.ensures ∙ c.if-not-alike.true))
 
 pub loop-n-preserved : goal.loop-n-preserved
 loop-n-preserved c =
-    c.loop-n.invariant ∙ alike_on _ _ _ c.loop-n-test.true (ltb-true _ _ c.if-n-b.true) c.if-x-eq32.false (sym c.alike.ensures ∙ c.if-not-alike.false)
+    c.loop-n.invariant ∙ alike_on _ _ _ c.loop-n-test.true c.if-n-b.true c.if-x-eq32.false (sym c.alike.ensures ∙ c.if-not-alike.false)
 
 pub returns-else-n-b : goal.returns-else-n-b
-returns-else-n-b c = sym (c.loop-n.invariant ∙ second_ends _ _ _ c.loop-n-test.true (ltb-false _ _ c.if-n-b.false))
+returns-else-n-b c = sym (c.loop-n.invariant ∙ second_ends _ _ _ c.loop-n-test.true c.if-n-b.false)
 
 pub returns-after-loop-n : goal.returns-after-loop-n
 returns-after-loop-n c = sym (c.loop-n.invariant ∙ first_ends _ _ _ c.loop-n-test.false)

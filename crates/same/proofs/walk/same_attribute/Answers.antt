@@ -5,26 +5,19 @@ use Rattle.text.specs.Bytes.{same}
 use Rattle.same.proofs.Compared.{parts_compared, oids_differ, values_equal, forms_compared, values_differ}
 use Rattle.same.proofs.walk.same_attribute.Goals as goal
 
--- what the OIDs' comparison came to
-oids : (k : tie.After-equal)
-    → same (bytes_of k.before.before.before.before.before.args.a.oid k.before.before.before.before.before.args.s.now)
-    (bytes_of k.before.before.before.before.before.args.b.oid k.before.before.before.before.before.args.t.now)
-    ≡ k.equal.result
-oids k = parts_compared _ _ _ _ _ k.before.before.part.ensures k.before.part2.ensures k.equal.ensures
-
 pub returns-then-not-equal : goal.returns-then-not-equal
-returns-then-not-equal c = oids_differ _ _ _ (oids c ∙ c.if-not-equal.true)
+returns-then-not-equal c = oids_differ _ _ _ (parts_compared _ _ _ _ _ c.part.ensures c.part-2.ensures c.equal.ensures ∙ c.if-not-equal.true)
 
 pub returns-then-equal : goal.returns-then-equal
 returns-then-equal c =
-    values_equal _ _ _ (oids c ∙ c.if-not-equal.false)
+    values_equal _ _ _ (parts_compared _ _ _ _ _ c.part.ensures c.part-2.ensures c.equal.ensures ∙ c.if-not-equal.false)
     (parts_compared _ _ _ _ _ c.part-x.ensures c.part-y.ensures c.equal-2.ensures ∙ c.if-equal.true)
 
 pub returns-then-normalise : goal.returns-then-normalise
 returns-then-normalise c =
-    forms_compared _ _ _ (oids c ∙ c.if-not-equal.false) _ _ _ c.if-normalise.true c.part-x.ensures c.part-y.ensures c.same_normal.ensures
+    forms_compared _ _ _ (parts_compared _ _ _ _ _ c.part.ensures c.part-2.ensures c.equal.ensures ∙ c.if-not-equal.false) _ _ _ c.if-normalise.true c.part-x.ensures c.part-y.ensures c.same_normal.ensures
 
 pub returns : goal.returns
 returns c =
-    values_differ _ _ _ (oids c ∙ c.if-not-equal.false) c.if-normalise.false
+    values_differ _ _ _ (parts_compared _ _ _ _ _ c.part.ensures c.part-2.ensures c.equal.ensures ∙ c.if-not-equal.false) c.if-normalise.false
     (parts_compared _ _ _ _ _ c.part-x.ensures c.part-y.ensures c.equal-2.ensures ∙ c.if-equal.false)
