@@ -18,7 +18,7 @@ loop-i-init c =
 
 pub loop-i-preserved : goal.loop-i-preserved
 loop-i-preserved c =
-    let q = sym c.record_at.ensures ∙ ap recorded c.before.«record».given.1‽ in
+    let q = sym c.record_at.ensures ∙ ap recorded c.in-Got-record_at.is in
     filling_goes_on _ _ _ _ _ _ _ _ _ c.loop-i.invariant _ _ c.loop-i-test.true q
 
 pub returns-in-Stop-record_at-clause-bundle_value : goal.returns-in-Stop-record_at-clause-bundle_value
@@ -33,7 +33,7 @@ pub returns-in-Got-clause-bundle_value : goal.returns-in-Got-clause-bundle_value
 unfolding held bundle_p
 returns-in-Got-clause-bundle_value c =
     let e = c.args in
-    let known = sym c.count_after.ensures ∙ ap counted c.in-Got.is in (row_ends (λ c l.‽ record { count = c; records = c }) _ _ _ _ _ _ _ c.loop-i.invariant c.loop-i-test.false ∙ sym (list_counted 0 bundle_most e.file.now _ (passed e.past) _ _ known))
+    let known = sym c.count_after.ensures ∙ ap counted c.in-Got.is in (row_ends (λ c l. record { count = c; records = l }) _ _ _ _ _ _ _ c.loop-i.invariant c.loop-i-test.false ∙ sym (list_counted 0 bundle_most e.file.now _ (passed e.past) _ _ known))
 
 pub returns-in-Stop-clause-bundle_value : goal.returns-in-Stop-clause-bundle_value
 unfolding bundle_p
