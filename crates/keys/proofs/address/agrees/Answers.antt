@@ -1,6 +1,5 @@
 -- `agrees` meets its contract. The loop's invariant: net and address agree under the mask where what is left of them does.
 -- The measure is what is left.
-use Prim.Native.Nat.{◌-◌}
 use mathlib.Core.Path.{refl, sym, ◌∙◌}
 use Rattle.keys.proofs.Range.{masked_here, masked-next, masked_end}
 use Rattle.keys.proofs.address.agrees.Goals as goal

@@ -1,6 +1,6 @@
 -- `ip_addr_in_range` meets its contract: no kind where lengths do not fit, and else what `agrees` ensures.
 use mathlib.Core.Path.{sym, ◌∙◌}
-use mathlib.Core.Logic.{inl, inr, ⊎_elim}
+use mathlib.Core.Logic.{inl, inr}
 use native.Mathlib.Omega.{arith}
 use lib.ListN.{length-take, length-drop}
 use Rattle.text.proofs.Same.{tail}
