@@ -5,6 +5,7 @@ use mathlib.Core.Path.{◌∙◌}
 use Rattle.verdicts.specs.Grid.{root_signed}
 use Rattle.issuing.proofs.Turns.{row-starts, row-joined, row_unlikely, row_unsigned, row-whole}
 use Rattle.issuing.proofs.row.root_row.Goals as goal
+use Rattle.issuing.proofs.row.root_row.Goals.{then-root_signed+then-fits, then-root_signed+else-fits, else-root_signed}
 
 pub loop-root-init : goal.loop-root-init
 loop-root-init c = λ cert h. row-starts
@@ -13,12 +14,10 @@ pub loop-root-preserved : goal.loop-root-preserved
 loop-root-preserved c =
     λ cert h.
     let inv = c.loop-root.invariant cert h in
-    ⊎_elim
-    (λ w. row-joined inv c.loop-root-test.true c.root_signed.ensures w.0.taken w.1.ensures (w.2.ensures cert h) w.3.taken (w.5 ∙ w.4.ensures))
-    (⊎_elim
-    (λ w. row_unlikely inv c.loop-root-test.true c.root_signed.ensures w.0.taken w.1.ensures (w.2.ensures cert h) w.3.left w.4)
-    (λ w. row_unsigned inv c.loop-root-test.true c.root_signed.ensures w.0.left w.1))
-    c.if-root_signed.branch
+    elim c.if-root_signed.branch [
+      then-root_signed+then-fits w ↦ row-joined inv c.loop-root-test.true c.root_signed.ensures w.if-root_signed.true w.record.ensures (w.fits.ensures cert h) w.if-fits.true (w.row-is ∙ w.with-row.ensures)
+    | then-root_signed+else-fits w ↦ row_unlikely inv c.loop-root-test.true c.root_signed.ensures w.if-root_signed.true w.record.ensures (w.fits.ensures cert h) w.if-fits.false w.row-is
+    | else-root_signed w ↦ row_unsigned inv c.loop-root-test.true c.root_signed.ensures w.if-root_signed.false w.row-is ]
 
 pub returns : goal.returns
 returns c = λ cert h. row-whole (c.loop-root.invariant cert h) c.loop-root-test.false c.size-n.ensures

@@ -1,6 +1,5 @@
 -- `matches_walk` looks for each attribute of one RDN in the other. The invariant: the walk of what is left is the walk of all.
 use mathlib.Core.Path.{refl, sym, ◌∙◌}
-use borrow.Author.Tests.{not-true, not-false}
 use mathlib.Core.Bool.{true, false}
 use Rattle.names.proofs.Attributes.{attr_read, attr_stops}
 use Rattle.same.proofs.Members.{has_read_lem, sought_first, sought_stops, sought_none}

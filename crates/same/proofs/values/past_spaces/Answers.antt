@@ -1,8 +1,6 @@
 -- `past_spaces` meets its contract. The loop's invariant: the spaces end where they end from the place that is looked at. The measure is
 -- what is left of the string.
-use Prim.Native.Nat.{◌-◌}
 use mathlib.Core.Path.{refl, sym, ◌∙◌}
-use borrow.Author.Tests.{eqb-true, eqb-false}
 use Rattle.same.proofs.Counts.{space_on, no_space, no_more}
 use Rattle.same.proofs.values.past_spaces.Goals as goal
 

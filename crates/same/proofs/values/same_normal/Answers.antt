@@ -1,10 +1,9 @@
 -- `same_normal` meets its contract. The loop's invariant is `Abreast`: the forms are the same where what is left of them is. The measure is
 -- what is left of the first value.
-use Prim.Native.Nat.{◌-◌}
 use mathlib.Core.Path.{◌∙◌}
 use mathlib.Core.Logic.{inl, inr, ⊎_elim}
 use native.Mathlib.Omega.{arith}
-use borrow.Author.Tests.{eqb-true, eqb-false, ne_eqb}
+use borrow.Author.Tests.{ne_eqb}
 use Rattle.same.proofs.Abreast.{begins, first-within, second_within, answers_second, answers_no, next, nearer}
 use borrow.Author.Rules.{rules}
 use Rattle.same.proofs.values.same_normal.Goals as goal

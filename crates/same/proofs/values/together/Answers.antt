@@ -1,9 +1,7 @@
 -- `together` meets its contract. The loop's invariant: the strings go together as far as they do from the place that is looked at. The
 -- measure is what is left of the first.
-use Prim.Native.Nat.{◌-◌}
 use mathlib.Core.Path.{sym, ◌∙◌}
 use native.Mathlib.Omega.{arith}
-use borrow.Author.Tests.{ltb-true, ltb-false}
 use Rattle.same.proofs.Counts.{alike_on, at_space, at_odds, first_ends, second_ends}
 use Rattle.same.proofs.values.together.Goals as goal
 

@@ -1,7 +1,5 @@
 -- `same_attribute` compares the OIDs first, then the values as they stand, then as the flag says, each by its bytes in its file.
-use mathlib.Core.Path.{◌≡◌, ◌∙◌}
-use Rattle.fields.specs.Spans.{bytes_of}
-use Rattle.text.specs.Bytes.{same}
+use mathlib.Core.Path.{◌∙◌}
 use Rattle.same.proofs.Compared.{parts_compared, oids_differ, values_equal, forms_compared, values_differ}
 use Rattle.same.proofs.walk.same_attribute.Goals as goal
 
