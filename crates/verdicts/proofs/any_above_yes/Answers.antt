@@ -1,6 +1,5 @@
 -- `any_above_yes` meets its contract. The loop's invariant: some byte is above yes where one was found so far or is found in what is
 -- left. The measure is what is left.
-use Prim.Native.Nat.{◌-◌}
 use mathlib.Core.Path.{refl}
 use native.Mathlib.Omega.{arith}
 use Rattle.verdicts.proofs.Pass.{seen_next, seen_ends}

@@ -1,7 +1,6 @@
 -- `verdict_rows` answers its verdicts where so many of them are there and none is above yes, or the first fault.
 use Prim.Native.Nat.{◌+◌, ◌≤◌}
 use native.Mathlib.Omega.{arith}
-use mathlib.Core.Logic.{⊎_elim}
 use mathlib.Core.Path.{◌≡◌, sym, ◌∙◌}
 use lib.ListN.{length}
 use Rattle.fields.specs.Fields.{many}

@@ -1,6 +1,5 @@
 -- `roots_after` answers so many records as the count says, in front of places that are as they were at first, or the first fault. The
 -- invariant: the first i places hold the records that were read.
-use Prim.Native.Nat.{◌-◌}
 use mathlib.Core.Path.{sym, ap, ◌∙◌}
 use Rattle.places.specs.Limits.{roots_most}
 use Rattle.fields.specs.Answers.{counted, passed, held}

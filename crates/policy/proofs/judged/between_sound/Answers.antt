@@ -7,7 +7,7 @@ pub returns-then-authority : goal.returns-then-authority
 returns-then-authority c =
     let dated = sym (c.in_date.ensures _ _) ∙ c.if-in_date.true in
     let told = sym (c.handled.ensures _ _) ∙ c.if-handled.true in
-    c.well-formed-2.ensures‽ ∙ sym (between-asked _ _ dated told (sym (c.authority.ensures _ _) ∙ c.if-authority.true))
+    c.well_formed-then-authority.ensures ∙ sym (between-asked _ _ dated told (sym (c.authority.ensures _ _) ∙ c.if-authority.true))
 
 pub returns-else-authority : goal.returns-else-authority
 returns-else-authority c = sym (between_no_authority _ _ (sym (c.authority.ensures _ _) ∙ c.if-authority.false))

@@ -7,5 +7,5 @@ returns c =
     let issued = c.who_issued-issuing.ensures in
     let places = c.places_judged-places.ensures in
     let a = c.args in
-    judged_is a.file.now a.time a.card issued.0 issued.1 places.0.0 places.0.1 c.issuers_of.ensures
-    c.roots_above-above.ensures.0 c.roots_above-above.ensures.1 c.part.ensures places.1.0 places.1.1
+    judged_is a.file.now a.time a.card issued.bundle_value issued.roots_value places.sound_value.0 places.sound_value.1 c.issuers_of.ensures
+    c.roots_above-above.ensures.0 c.roots_above-above.ensures.1 c.part.ensures places.leaves_value places.counted_value

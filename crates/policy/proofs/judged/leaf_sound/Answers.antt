@@ -10,7 +10,7 @@ returns-then-handled c =
     let head = c.head-head.ensures in
     let own = own-head _ a.leaf a.file.now head in
     let dated = sym (rw own at (c.in_date.ensures a.leaf a.file.now)) ∙ c.if-in_date.true in
-    let formed = sym (rw own at f.before.well-formed-2.ensures‽) ∙ c.if-well_formed.true in
+    let formed = sym (rw own at c.well_formed-then-in_date.ensures) ∙ c.if-well_formed.true in
     let told = sym (rw own at (c.handled.ensures a.leaf a.file.now)) ∙ c.if-handled.true in
     c.leaf_serves.ensures ∙ sym (leaf-asked _ _ _ _ dated formed told _ _ head c.extensions.ensures)
 
@@ -20,7 +20,7 @@ returns-else-handled c =
     let head = c.head-head.ensures in
     let own = own-head _ a.leaf a.file.now head in
     let dated = sym (rw own at (c.in_date.ensures a.leaf a.file.now)) ∙ c.if-in_date.true in
-    let formed = sym (rw own at f.before.well-formed-2.ensures‽) ∙ c.if-well_formed.true in
+    let formed = sym (rw own at c.well_formed-then-in_date.ensures) ∙ c.if-well_formed.true in
     sym (leaf-unhandled _ _ _ _ dated formed (sym (rw own at (c.handled.ensures a.leaf a.file.now)) ∙ c.if-handled.false))
 
 pub returns-else-well_formed : goal.returns-else-well_formed
@@ -29,7 +29,7 @@ returns-else-well_formed c =
     let head = c.head-head.ensures in
     let own = own-head _ a.leaf a.file.now head in
     let dated = sym (rw own at (c.in_date.ensures a.leaf a.file.now)) ∙ c.if-in_date.true in
-    sym (leaf_unformed _ _ _ _ dated (sym (rw own at c.before.well-formed-2.ensures‽) ∙ c.if-well_formed.false))
+    sym (leaf_unformed _ _ _ _ dated (sym (rw own at c.well_formed-then-in_date.ensures) ∙ c.if-well_formed.false))
 
 pub returns-else-in_date : goal.returns-else-in_date
 returns-else-in_date c =

@@ -14,10 +14,9 @@ use Rattle.rows.proofs.Taking.{lowest_grows}
 use Rattle.rules.specs.Limits.{limit_of}
 use Rattle.policy.specs.Sound.{top_sound, sound_roots, root_limits}
 use Rattle.policy.proofs.Asking.{asking_starts, asking_turn, asking_ends}
+use Rattle.policy.proofs.judged.roots_above.Invariants.{few}
 use Rattle.policy.proofs.judged.roots_above.Goals as goal
-
-few : roots_most ≤ 64
-few = omega arith
+use Rattle.policy.proofs.judged.roots_above.Goals.{then-top_sound, else-top_sound}
 
 pub loop-i-init : goal.loop-i-init
 loop-i-init c = (rw c.size-n.ensures (size-within roots_most _), c.lowest-i.ensures, asking_starts _ _ _ roots_most few _)
@@ -40,9 +39,9 @@ loop-i-preserved c =
       j.0,
       c.lowest-i-in-loop-i.ensures,
       rw rest
-          (⊎_elim (λ w. asking_turn _ _ _ _ few _ _ _ _ j.2 j.0 _ j.1 c.loop-i-test.true _ _ true limit (test ∙ w.0.taken) (w.2 ∙ w.1.ensures))
-          (λ w. asking_turn _ _ _ _ few _ _ _ _ j.2 j.0 _ j.1 c.loop-i-test.true _ _ false limit (test ∙ w.0.left) w.1)
-          c.if-top_sound.branch),
+          (elim c.if-top_sound.branch [
+            then-top_sound w ↦ asking_turn _ _ _ _ few _ _ _ _ j.2 j.0 _ j.1 c.loop-i-test.true _ _ true limit (test ∙ w.if-top_sound.true) (w.sound-is ∙ w.with-sound.ensures)
+          | else-top_sound w ↦ asking_turn _ _ _ _ few _ _ _ _ j.2 j.0 _ j.1 c.loop-i-test.true _ _ false limit (test ∙ w.if-top_sound.false) w.sound-is ]),
     )
 
 pub returns : goal.returns

@@ -10,7 +10,7 @@ use Rattle.policy.specs.Sound.{top_sound, root_of}
 use Rattle.policy.proofs.Asking.{Asking}
 use Rattle.policy.proofs.judged.roots_above.Given as goal
 
-few : roots_most ≤ 64
+pub few : roots_most ≤ 64
 few = omega arith
 
 abbrev pub invariant-loop-i : goal.invariant-loop-i

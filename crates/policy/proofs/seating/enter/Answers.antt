@@ -1,7 +1,7 @@
 -- `enter` puts each of a row in the row of its limit. The invariant: i is the lowest of the rest, and those that are not among the rest are
 -- in their row. The measure: i grows.
 use native.Mathlib.Omega.{arith}
-use Prim.Native.Nat.{◌-◌, ◌<◌, min}
+use Prim.Native.Nat.{ℕ, ◌-◌, ◌<◌, min}
 use mathlib.Core.Path.{◌≡◌, sym, ap, ◌∙◌}
 use lib.ListN.{length, get_or}
 use Rattle.places.specs.Limits.{bundle_most}
@@ -12,8 +12,8 @@ use Rattle.policy.proofs.Filling.{entering_starts, entering_turn, entering_ends}
 use Rattle.policy.proofs.seating.enter.Goals as goal
 
 -- the row that is written to is there
-there : (c : tie.After-lesser invariant-loop decreases-loop) → c.lesser.result < bundle_most
-there c = omega (arith, c.lesser.ensures, c.before.before.before.before.before.before.before.requires.0.1)
+there : (row a last : ℕ) → row ≡ min a last → last < bundle_most → row < bundle_most
+there row a last e h = omega (arith, e)
 
 pub loop-i-init : goal.loop-i-init
 loop-i-init c = (c.lowest-i.ensures, entering_starts _ _ _ _ c.requires.rows_value.0)
@@ -25,16 +25,16 @@ pub overflow_cast-limits : goal.overflow_cast-limits
 overflow_cast-limits c = omega (arith, c.type_inv.limits c.loop-i.i)
 
 pub offset_bounds-rows-row : goal.offset_bounds-rows-row
-offset_bounds-rows-row c = omega (arith, there c)
+offset_bounds-rows-row c = omega (arith, there _ _ _ c.lesser-row.ensures c.requires.rows_value.1)
 
 pub bounds-rows-row : goal.bounds-rows-row
-bounds-rows-row c = omega (arith, there c, c.loop-i.invariant.1.size)
+bounds-rows-row c = omega (arith, there _ _ _ c.lesser-row.ensures c.requires.rows_value.1, c.loop-i.invariant.1.size)
 
 pub offset_bounds-rows-row-in-loop-i : goal.offset_bounds-rows-row-in-loop-i
-offset_bounds-rows-row-in-loop-i c = omega (arith, there c)
+offset_bounds-rows-row-in-loop-i c = omega (arith, there _ _ _ c.lesser-row.ensures c.requires.rows_value.1)
 
 pub bounds-rows-row-in-loop-i : goal.bounds-rows-row-in-loop-i
-bounds-rows-row-in-loop-i c = omega (arith, there c, c.loop-i.invariant.1.size)
+bounds-rows-row-in-loop-i c = omega (arith, there _ _ _ c.lesser-row.ensures c.requires.rows_value.1, c.loop-i.invariant.1.size)
 
 pub loop-i-smaller : goal.loop-i-smaller
 loop-i-smaller c =
@@ -50,7 +50,7 @@ loop-i-preserved c =
     let place : l.i < 64 = omega arith in
     let row : c.lesser-row.result ≡ min (get_or c.args.limits.now l.i 0) c.args.last = c.lesser-row.ensures in
     let rest = c.without-rest.ensures ∙ ap (left l.rest) c.with-in-loop-i.ensures in
-    (c.lowest-i-in-loop-i.ensures, rw (rest, c.with.ensures, row) (entering_turn _ _ _ _ _ l.invariant.1 _ l.invariant.0 place (rw (← row) (there c))))
+    (c.lowest-i-in-loop-i.ensures, rw (rest, c.with.ensures, row) (entering_turn _ _ _ _ _ l.invariant.1 _ l.invariant.0 place (rw (← row) (there _ _ _ c.lesser-row.ensures c.requires.rows_value.1))))
 
 pub shape_of-rows : goal.shape_of-rows
 shape_of-rows c =

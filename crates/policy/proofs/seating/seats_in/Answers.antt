@@ -2,7 +2,8 @@
 use native.Mathlib.Omega.{arith}
 use Prim.Native.Nat.{◌+◌, ◌*◌}
 use mathlib.Core.Path.{◌≡◌, sym, ap, ◌∙◌}
-use lib.ListN.{length, replicate, length-map}
+use lib.ListN.{length, replicate}
+use borrow.Author.Rules.{rules}
 use Rattle.places.specs.Limits.{roots_most, bundle_most}
 use Rattle.rows.specs.Rows.{common, left, below}
 use Rattle.policy.specs.Filling.{FilledFrom}
@@ -10,66 +11,63 @@ use Rattle.policy.specs.Standing.{seats_most, places_between}
 use Rattle.policy.specs.declared.judged.Judged.{Judged}
 use Rattle.policy.proofs.ByKind.{limited, limited_common, limited_left, unfilled_starts, unfilled_empty, unfilled_next, seats-filled}
 use Rattle.policy.proofs.seating.seats_in.Goals as goal
+use Rattle.policy.proofs.seating.seats_in.Goals.{After-without-others, After-fill_from, After-fill_from-2}
 
--- as many limits as there may be places and roots
-places-long : (s : tie.Start) → length s.args.judged.between.limits ≡ bundle_most
-places-long s = simp length-map at s.well-formed.1.0.1.1.1.0.1.1.1.0.1.0.1
+-- ---- when the rows of those who may stand are known: what these rows are
 
-roots-long : (s : tie.Start) → length s.args.judged.above.limits ≡ roots_most
-roots-long s = simp length-map at s.well-formed.1.0.1.1.1.1.0.1.1.1.0.1.0.1
+tops : (c : After-without-others) → c.shared-tops.result ≡ common c.args.judged.above.sound (below roots_most)
+tops c = c.shared-tops.ensures ∙ ap (common c.args.judged.above.sound) c.below.ensures
 
--- ---- when the rows of those who may stand are known: what was judged, and what these rows are
+between : (c : After-without-others) → c.shared-between.result ≡ places_between c.args.judged
+between c = c.shared-between.ensures ∙ ap (common c.args.judged.between.sound) c.below-2.ensures
 
-abbrev judged : tie.After-without → Judged
-judged w = w.before.before.before.before.before.before.before.args.judged
+counted : (c : After-without-others) → c.shared-counted.result ≡ common (places_between c.args.judged) c.args.judged.counted
+counted c = c.shared-counted.ensures ∙ ap (λ row. common row c.args.judged.counted) (between c)
 
-tops : (w : tie.After-without) → w.before.before.before.before.shared.result ≡ common (judged w).above.sound (below roots_most)
-tops w = w.before.before.before.before.shared.ensures ∙ ap (common (judged w).above.sound) w.before.before.before.before.before.below.ensures
-
-between : (w : tie.After-without) → w.before.before.shared2.result ≡ places_between (judged w)
-between w = w.before.before.shared2.ensures ∙ ap (common (judged w).between.sound) w.before.before.before.below2.ensures
-
-counted : (w : tie.After-without) → w.before.shared3.result ≡ common (places_between (judged w)) (judged w).counted
-counted w = w.before.shared3.ensures ∙ ap (λ row. common row (judged w).counted) (between w)
-
-others : (w : tie.After-without) → w.without.result ≡ left (places_between (judged w)) (judged w).counted
-others w = w.without.ensures ∙ ap (λ row. left row (judged w).counted) (between w)
-
--- the kind of the roots
-one : (c : tie.After-fill-from) → let w = c.before.before.before.before.before.before in
-    FilledFrom 2 w.before.before.before.before.before.before.lesser.result (common (judged w).above.sound (below roots_most)) (judged w).above.limits (replicate (3 * seats_most) 0) c.fill-from.new.0
-one c = rw (tops c.before.before.before.before.before.before) at c.fill-from.ensures
-
--- the kind of the places that count
-two : (c : tie.After-fill-from2) → let f = c.before.before.before in let w = f.before.before.before.before.before.before in
-    FilledFrom (seats_most + 2) w.before.before.before.before.before.before.lesser.result (common (places_between (judged w)) (judged w).counted) (judged w).between.limits f.fill-from.new.0 c.fill-from2.new.0
-two c = rw (counted c.before.before.before.before.before.before.before.before.before) at c.fill-from2.ensures
+others : (c : After-without-others) → c.without-others.result ≡ left (places_between c.args.judged) c.args.judged.counted
+others c = c.without-others.ensures ∙ ap (λ row. left row c.args.judged.counted) (between c)
 
 pub fill_from-requires-clause-empty : goal.fill_from-requires-clause-empty
 fill_from-requires-clause-empty c = (unfilled_empty _ _ unfilled_starts 2 (omega arith) (omega arith), omega (arith, c.lesser-last.ensures))
 
 pub fill_from-requires-clause-limited : goal.fill_from-requires-clause-limited
-fill_from-requires-clause-limited c = rw (tops c) (limited _ roots_most _ (roots-long c) (omega arith))
+fill_from-requires-clause-limited c =
+    let long : length c.args.judged.above.limits ≡ roots_most = search rules in
+    rw (tops (goal.at.fill_from-requires-clause-limited c).After-without-others) (limited _ roots_most _ long (omega arith))
 
-pub slice_bounds-fill_from-end-4 : goal.slice_bounds-fill_from-end-4
-slice_bounds-fill_from-end-4 c = sym (places-long c)
+-- the kind of the roots
+one : (c : After-fill_from)
+    → FilledFrom 2 c.lesser-last.result (common c.args.judged.above.sound (below roots_most)) c.args.judged.above.limits (replicate (3 * seats_most) 0) c.fill_from.new.rows
+one c = rw (c.shared-tops.ensures ∙ ap (common c.args.judged.above.sound) c.below.ensures) at c.fill_from.ensures
+
+-- the kind of the places that count
+two : (c : After-fill_from-2)
+    → FilledFrom (seats_most + 2) c.lesser-last.result (common (places_between c.args.judged) c.args.judged.counted) c.args.judged.between.limits c.fill_from.new.rows c.fill_from-2.new.rows
+two c =
+    rw (c.shared-counted.ensures ∙ ap (λ row. common row c.args.judged.counted) (c.shared-between.ensures ∙ ap (common c.args.judged.between.sound) c.below-2.ensures)) at c.fill_from-2.ensures
 
 pub fill_from-requires-2-clause-empty : goal.fill_from-requires-2-clause-empty
-fill_from-requires-2-clause-empty c = (unfilled_empty _ _ (unfilled_next _ _ unfilled_starts 2 (omega arith) _ _ _ _ (one c)) (seats_most + 2) (omega arith) (omega arith), omega (arith, c.lesser-last.ensures))
+fill_from-requires-2-clause-empty c =
+    (unfilled_empty _ _ (unfilled_next _ _ unfilled_starts 2 (omega arith) _ _ _ _ (one (goal.at.fill_from-requires-2-clause-empty c).After-fill_from)) (seats_most + 2) (omega arith) (omega arith), omega (arith, c.lesser-last.ensures))
 
 pub fill_from-requires-2-clause-limited : goal.fill_from-requires-2-clause-limited
-fill_from-requires-2-clause-limited c = rw (counted c) (limited_common _ _ _ (limited _ bundle_most _ (places-long c) (omega arith)))
-
-pub slice_bounds-fill_from-end-6 : goal.slice_bounds-fill_from-end-6
-slice_bounds-fill_from-end-6 c = sym (places-long c)
+fill_from-requires-2-clause-limited c =
+    let long : length c.args.judged.between.limits ≡ bundle_most = search rules in
+    rw (counted (goal.at.fill_from-requires-2-clause-limited c).After-without-others) (limited_common _ _ _ (limited _ bundle_most _ long (omega arith)))
 
 pub fill_from-requires-3-clause-empty : goal.fill_from-requires-3-clause-empty
-fill_from-requires-3-clause-empty c = let u = unfilled_next _ _ unfilled_starts 2 (omega arith) _ _ _ _ (one c) in ((unfilled_empty _ _ (unfilled_next _ _ u (seats_most + 2) (omega arith) _ _ _ _ (two c)) (2 * seats_most + 2) (omega arith) (omega arith), omega (arith, c.lesser-last.ensures)))
+fill_from-requires-3-clause-empty c =
+    let at = goal.at.fill_from-requires-3-clause-empty c in
+    let u = unfilled_next _ _ unfilled_starts 2 (omega arith) _ _ _ _ (one at.After-fill_from) in
+    (unfilled_empty _ _ (unfilled_next _ _ u (seats_most + 2) (omega arith) _ _ _ _ (two at.After-fill_from-2)) (2 * seats_most + 2) (omega arith) (omega arith), omega (arith, c.lesser-last.ensures))
 
 pub fill_from-requires-3-clause-limited : goal.fill_from-requires-3-clause-limited
-fill_from-requires-3-clause-limited c = let u = unfilled_next _ _ unfilled_starts 2 (omega arith) _ _ _ _ (one c) in (rw (others c) (limited_left _ _ _ (limited _ bundle_most _ (places-long c) (omega arith))))
+fill_from-requires-3-clause-limited c =
+    let long : length c.args.judged.between.limits ≡ bundle_most = search rules in
+    rw (others (goal.at.fill_from-requires-3-clause-limited c).After-without-others) (limited_left _ _ _ (limited _ bundle_most _ long (omega arith)))
 
 pub returns : goal.returns
 returns c =
-    let three = rw (others c) at c.fill_from-3.ensures in
-    seats-filled (judged c) c.args.after _ c.lesser-last.ensures _ _ _ _ unfilled_starts (one c) (two c) three
+    let at = goal.at.returns c in
+    let three = rw (others at.After-without-others) at c.fill_from-3.ensures in
+    seats-filled c.args.judged c.args.after _ c.lesser-last.ensures _ _ _ _ unfilled_starts (one at.After-fill_from) (two at.After-fill_from-2) three

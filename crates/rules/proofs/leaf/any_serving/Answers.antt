@@ -2,7 +2,6 @@
 -- left does. The measure is how many are left. `a` is the place after a usage was read, `u` where it was found.
 use mathlib.Core.Path.{refl, sym, ap, ◌∙◌}
 use Rattle.fields.specs.Answers.{counted}
-use Rattle.rules.specs.Rules.{serving}
 use Rattle.rules.proofs.AnyOf.{any_next, any_found, any_stops, any-ends}
 use Rattle.rules.proofs.leaf.any_serving.Goals as goal
 
