@@ -16,7 +16,6 @@ use Rattle.card.specs.Parts.{content_of}
 use Rattle.card.specs.declared.Card.{Card}
 use Rattle.card.proofs.Sections.{CardRead}
 use Rattle.card.proofs.Standing.{roots_counted, roots_few, bundle_counted, bundle-few}
-use Rattle.issuing.specs.Issued.{issued}
 use Rattle.issuing.proofs.Agrees.{size_is}
 use Rattle.order.specs.Paths.{Simple}
 use Rattle.order.proofs.Simple.{simple-length}

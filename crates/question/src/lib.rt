@@ -1,6 +1,7 @@
 // The question of a card file: the file is read, and its certificates are compared and judged once, at a time that is handed in. How the
 // question is answered is left to the crates above.
 #![tactic(auto)]
+
 ghost use Rattle.std.specs.Prelude.{◌≡◌};
 ghost use Rattle.card.specs.Card.{file_p};
 ghost use Rattle.question.specs.Question.{time_for, question_of, fresh_question, posed_as, posed};

@@ -14,14 +14,14 @@ use rows::{below, highest, lowest, shared, with, without};
 
 // What a walk keeps of a depth beside the places that are still to be taken there: the places that the path before leaves free, and how
 // that path stands.
-#[derive(Drop)]
+#[derive(Clone, Copy)]
 pub(crate) struct Level {
     pub(crate) free: u64,
     pub(crate) standing: Standing,
 }
 
 // Where a walk stands: its depth, the places taken before it, and for each depth up to it the places ahead and the level.
-#[derive(Drop)]
+#[derive(Clone, Copy)]
 pub(crate) struct Depths {
     pub(crate) place: [u8; BundlePlace::MOST],
     pub(crate) ahead: [u64; BundlePlace::MOST],
@@ -30,7 +30,7 @@ pub(crate) struct Depths {
 }
 
 // Where a walk stopped: its reply, the path beside it as the first so many places, and what waits at so many depths.
-#[derive(Drop)]
+#[derive(Clone, Copy)]
 pub(crate) struct End {
     pub(crate) reply: Reply,
     pub(crate) len: usize,

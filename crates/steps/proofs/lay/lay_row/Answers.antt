@@ -1,0 +1,78 @@
+-- `lay_row` meets its contract. After i turns the children by the row's places below i lie above slot m.
+use mathlib.Core.Path.{◌≡◌, refl, ap, ◌∙◌, sym}
+use mathlib.Core.Logic.{⊎_elim}
+use mathlib.Core.Bool.{true}
+use mathlib.Core.List.{List}
+use Prim.Native.Nat.{ℕ, ◌+◌, ◌*◌, ◌-◌, ◌≤◌, ◌<◌}
+use native.Mathlib.Omega.{arith}
+use lib.Seq.{paste}
+use lib.ListN.{length, take-append-drop}
+use Rattle.order.specs.Walk.{snoc}
+use Rattle.rows.specs.Rows.{has}
+use Rattle.steps.specs.Parts.{path_of, offered}
+use Rattle.reply.specs.Laid.{flat}
+use Rattle.reply.specs.Slots.{slot_bytes, slot_of}
+use Rattle.steps.proofs.Laid.{offered_yes, offered_no, child_below, child_room}
+use Rattle.steps.proofs.Stack.{slot_len, slot_next}
+use Rattle.steps.proofs.lay.lay_row.Goals as goal
+
+-- in the branch: the place is in the row, so there is a slot for the child
+yes : (c : tie.Then1 invariant-loop decreases-loop) → has c.before.before.before.loop.i c.before.before.before.before.before.args.row ≡ true
+yes c = sym c.before.has.ensures ∙ c.if1.true
+
+fewer : (c : tie.Then1 invariant-loop decreases-loop) → length (offered c.before.before.before.loop.i c.before.before.before.before.before.args.row (path_of c.before.before.before.before.before.args.s))
+    < length (offered c.before.before.before.before.before.args.n c.before.before.before.before.before.args.row (path_of c.before.before.before.before.before.args.s))
+fewer c =
+    let s = c.before.before.before.before.before in
+    child_below s.args.row (path_of s.args.s) s.args.n s.requires.0.1 c.before.before.before.loop.i (omega arith) (yes c)
+
+pub loop-i-init : goal.loop-i-init
+unfolding offered flat
+loop-i-init c = (omega arith, (omega arith, (sym (take-append-drop (slot_bytes * c.args.m) c.args.room.now), refl)))
+
+pub put_child-requires : goal.put_child-requires
+put_child-requires c =
+    let l = c.loop-i in
+    let g : slot_bytes * l.top + slot_bytes ≤ length l.room = omega (arith, fewer c, l.invariant, c.requires) in
+    (g, omega (arith, slot_len c.args.s c.requires.s_value.0, c.requires.s_value.1))
+
+pub overflow_add-top : goal.overflow_add-top
+overflow_add-top c =
+    omega (arith, fewer c, c.requires)
+
+pub loop-i-preserved : goal.loop-i-preserved
+loop-i-preserved c =
+    let l = c.loop-i in
+    let a = c.args in
+    ⊎_elim
+    (λ w.
+    let t : tie.Then1 invariant-loop decreases-loop = record { before = c; if1 = w.0 } in
+    let y = yes t in
+    let r : c.if-has.room ≡ paste l.room (slot_bytes * l.top) (slot_of (snoc (path_of a.s) l.i)) slot_bytes =
+    w.5 ∙ w.2.ensures ∙ ap (λ (k : List ℕ). paste l.room (slot_bytes * l.top) k slot_bytes) (slot_next a.s l.i c.requires.s_value.0 c.requires.s_value.1) in (
+      omega arith,
+      (
+        w.6 ∙ omega (arith, l.invariant.1.0, ap length (offered_yes a.row (path_of a.s) l.i y)),
+        (
+          r ∙ rw w.6 (child_room a.row (path_of a.s) a.n c.requires.s_value.1 l.i (omega arith) y a.room.now l.room a.m l.top c.requires.s_in_bounds l.invariant.1.0 l.invariant.1.1.0),
+          ap length w.5 ∙ w.2.kept.0 ∙ l.invariant.1.1.1,
+        ),
+      ),
+    ))
+    (λ w.
+    let e = offered_no a.row (path_of a.s) l.i (sym c.has.ensures ∙ w.0.left) in
+    (omega arith, (w.2 ∙ rw e l.invariant.1.0, (w.1 ∙ rw (e, w.2) l.invariant.1.1.0, ap length w.1 ∙ l.invariant.1.1.1))))
+    c.if-has.branch
+
+pub shape_of-room : goal.shape_of-room
+shape_of-room c = c.loop-i.invariant.1.1.1
+
+pub returns-clause-count : goal.returns-clause-count
+returns-clause-count c =
+    let l = c.loop-i in
+    let e : l.i ≡ c.args.n = omega arith in (rw (← e) l.invariant.1.0)
+
+pub returns-clause-room : goal.returns-clause-room
+returns-clause-room c =
+    let l = c.loop-i in
+    let e : l.i ≡ c.args.n = omega arith in (rw (← e) l.invariant.1.1.0)

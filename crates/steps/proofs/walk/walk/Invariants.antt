@@ -1,0 +1,15 @@
+-- `walk` stops as its contract says, from any state. The invariant: the state is where the steps so far lead from the stack that it began
+-- with, and none of the paths that they took qualifies.
+use Prim.Native.Nat.{◌+◌, ◌*◌, ◌-◌}
+use Rattle.question.specs.Question.{places_by}
+use Rattle.steps.specs.Parts.{roots_seated, waiting}
+use Rattle.steps.proofs.Ends.{Going}
+use Rattle.steps.proofs.walk.walk.Given as goal
+
+abbrev pub invariant-loop-row : goal.invariant-loop-row
+invariant-loop-row l =
+    Going (places_by l.rows l.n) (roots_seated l.roots l.seats) l.seats l.budget (waiting l.n l.initial.ahead l.initial.place (l.initial.d + 1)) l.ahead l.levels l.place l.row l.here l.d l.steps
+
+abbrev pub decreases-loop-row : goal.decreases-loop-row
+decreases-loop-row l =
+    2 * (l.budget - l.steps) + l.d
