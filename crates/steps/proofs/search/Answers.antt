@@ -7,10 +7,11 @@ use Rattle.reply.specs.Laid.{flat}
 use Rattle.reply.proofs.Faults.{Clear, clear, clear-runs, stopped, answered_stops}
 use Rattle.steps.proofs.Ends.{stopped_searched}
 use Rattle.steps.proofs.search.Goals as goal
+use Rattle.steps.proofs.search.Goals.{Else-stop-ne0}
 
 -- nothing stands in the way
-ready : (c : tie.Else1) → Clear c.before.before.before.args.question.size (length c.before.before.before.args.room.now)
-ready c = clear _ _ _ (sym c.before.fault.ensures ∙ c.if1.false)
+ready : (c : Else-stop-ne0) → Clear c.args.question.size (length c.args.room.now)
+ready c = clear _ _ _ (sym c.fault-stop.ensures ∙ c.if-stop-ne0.false)
 
 pub returns-then-stop-ne0 : goal.returns-then-stop-ne0
 returns-then-stop-ne0 c =
@@ -18,13 +19,13 @@ returns-then-stop-ne0 c =
     answered_stops _ _ _ _ _ _ _ (omega (arith, e, c.if-stop-ne0.true)) (stopped e c.stopped.ensures.reply c.stopped.ensures.path)
 
 pub run-end-requires : goal.run-end-requires
-run-end-requires c = let k = ready c in (k.some, k.few)
+run-end-requires c = let k = ready (goal.at.run-end-requires c).Else-stop-ne0 in (k.some, k.few)
 
 pub zero_bytes-requires : goal.zero_bytes-requires
-zero_bytes-requires c = (zero-le, omega (arith, c.slots.ensures, (ready c).room))
+zero_bytes-requires c = (zero-le, omega (arith, c.slots.ensures, (ready (goal.at.zero_bytes-requires c).Else-stop-ne0).room))
 
 pub returns : goal.returns
 unfolding flat
 returns c =
-    let k = ready c in
+    let k = ready (goal.at.returns c).Else-stop-ne0 in
     rw (clear-runs _ _ _ k) (stopped_searched k.some k.few c.run-end.ensures c.answer_of.ensures.reply c.answer_of.ensures.path (rw c.slots.ensures at c.zero_bytes.ensures))

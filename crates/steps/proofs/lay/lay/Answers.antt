@@ -25,7 +25,7 @@ lay_row-m-requires c =
     let short : length (path_of l.s) < bundle_most = rw path (omega arith) in
     let fits : slot_bytes * (l.m + length (offered c.args.n (get_or c.args.ahead l.k 0) (path_of l.s))) ≤ length l.room =
     rw path (room-more c.args.n c.args.ahead c.args.place l.invariant.1.1 b h c.args.depths c.loop-k-test.true c.requires.depths_in_bounds) in
-    ((l.invariant.1.0 ∙ ap slot_of (sym path), short), fits)
+    record { s_value = (l.invariant.1.0 ∙ ap slot_of (sym path), short); s_in_bounds = fits }
 
 pub loop-k-preserved : goal.loop-k-preserved
 loop-k-preserved c =
@@ -38,7 +38,7 @@ loop-k-preserved c =
       (
         slot_more c.args.place l.s l.k b h l.invariant.1.0,
         lying_more c.args.n c.args.ahead c.args.place l.invariant.1.1 b h
-            (rw path at r.ensures.0) (rw path at r.ensures.1) r.auto.0,
+            (rw path at r.ensures.count) (rw path at r.ensures.room) r.auto.room,
       ),
     )
 

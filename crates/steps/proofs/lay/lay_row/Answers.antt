@@ -15,16 +15,11 @@ use Rattle.reply.specs.Slots.{slot_bytes, slot_of}
 use Rattle.steps.proofs.Laid.{offered_yes, offered_no, child_below, child_room}
 use Rattle.steps.proofs.Stack.{slot_len, slot_next}
 use Rattle.steps.proofs.lay.lay_row.Goals as goal
+use Rattle.steps.proofs.lay.lay_row.Goals.{Then-has, then-has, else-has}
 
 -- in the branch: the place is in the row, so there is a slot for the child
-yes : (c : tie.Then1 invariant-loop decreases-loop) → has c.before.before.before.loop.i c.before.before.before.before.before.args.row ≡ true
-yes c = sym c.before.has.ensures ∙ c.if1.true
-
-fewer : (c : tie.Then1 invariant-loop decreases-loop) → length (offered c.before.before.before.loop.i c.before.before.before.before.before.args.row (path_of c.before.before.before.before.before.args.s))
-    < length (offered c.before.before.before.before.before.args.n c.before.before.before.before.before.args.row (path_of c.before.before.before.before.before.args.s))
-fewer c =
-    let s = c.before.before.before.before.before in
-    child_below s.args.row (path_of s.args.s) s.args.n s.requires.0.1 c.before.before.before.loop.i (omega arith) (yes c)
+fewer : (c : Then-has) → length (offered c.loop-i.i c.args.row (path_of c.args.s)) < length (offered c.args.n c.args.row (path_of c.args.s))
+fewer c = child_below c.args.row (path_of c.args.s) c.args.n c.requires.s_value.1 c.loop-i.i (omega arith) (sym c.has.ensures ∙ c.if-has.true)
 
 pub loop-i-init : goal.loop-i-init
 unfolding offered flat
@@ -33,36 +28,34 @@ loop-i-init c = (omega arith, (omega arith, (sym (take-append-drop (slot_bytes *
 pub put_child-requires : goal.put_child-requires
 put_child-requires c =
     let l = c.loop-i in
-    let g : slot_bytes * l.top + slot_bytes ≤ length l.room = omega (arith, fewer c, l.invariant, c.requires) in
+    let g : slot_bytes * l.top + slot_bytes ≤ length l.room = omega (arith, fewer (goal.at.put_child-requires c).Then-has, l.invariant, c.requires) in
     (g, omega (arith, slot_len c.args.s c.requires.s_value.0, c.requires.s_value.1))
 
 pub overflow_add-top : goal.overflow_add-top
 overflow_add-top c =
-    omega (arith, fewer c, c.requires)
+    omega (arith, fewer (goal.at.overflow_add-top c).Then-has, c.requires)
 
 pub loop-i-preserved : goal.loop-i-preserved
 loop-i-preserved c =
     let l = c.loop-i in
     let a = c.args in
-    ⊎_elim
-    (λ w.
-    let t : tie.Then1 invariant-loop decreases-loop = record { before = c; if1 = w.0 } in
-    let y = yes t in
-    let r : c.if-has.room ≡ paste l.room (slot_bytes * l.top) (slot_of (snoc (path_of a.s) l.i)) slot_bytes =
-    w.5 ∙ w.2.ensures ∙ ap (λ (k : List ℕ). paste l.room (slot_bytes * l.top) k slot_bytes) (slot_next a.s l.i c.requires.s_value.0 c.requires.s_value.1) in (
-      omega arith,
-      (
-        w.6 ∙ omega (arith, l.invariant.1.0, ap length (offered_yes a.row (path_of a.s) l.i y)),
-        (
-          r ∙ rw w.6 (child_room a.row (path_of a.s) a.n c.requires.s_value.1 l.i (omega arith) y a.room.now l.room a.m l.top c.requires.s_in_bounds l.invariant.1.0 l.invariant.1.1.0),
-          ap length w.5 ∙ w.2.kept.0 ∙ l.invariant.1.1.1,
-        ),
-      ),
-    ))
-    (λ w.
-    let e = offered_no a.row (path_of a.s) l.i (sym c.has.ensures ∙ w.0.left) in
-    (omega arith, (w.2 ∙ rw e l.invariant.1.0, (w.1 ∙ rw (e, w.2) l.invariant.1.1.0, ap length w.1 ∙ l.invariant.1.1.1))))
-    c.if-has.branch
+    elim c.if-has.branch [
+      then-has w ↦
+        (let y : has l.i a.row ≡ true = sym c.has.ensures ∙ w.if-has.true in
+        let r : c.if-has.room ≡ paste l.room (slot_bytes * l.top) (slot_of (snoc (path_of a.s) l.i)) slot_bytes =
+        w.room-is ∙ w.put_child.ensures ∙ ap (λ (k : List ℕ). paste l.room (slot_bytes * l.top) k slot_bytes) (slot_next a.s l.i c.requires.s_value.0 c.requires.s_value.1) in (
+          omega arith,
+          (
+            w.top-is ∙ omega (arith, l.invariant.1.0, ap length (offered_yes a.row (path_of a.s) l.i y)),
+            (
+              r ∙ rw w.top-is (child_room a.row (path_of a.s) a.n c.requires.s_value.1 l.i (omega arith) y a.room.now l.room a.m l.top c.requires.s_in_bounds l.invariant.1.0 l.invariant.1.1.0),
+              ap length w.room-is ∙ w.put_child.auto.room ∙ l.invariant.1.1.1,
+            ),
+          ),
+        ))
+    | else-has w ↦
+        (let e = offered_no a.row (path_of a.s) l.i (sym c.has.ensures ∙ w.if-has.false) in
+        (omega arith, (w.top-is ∙ rw e l.invariant.1.0, (w.room-is ∙ rw (e, w.top-is) l.invariant.1.1.0, ap length w.room-is ∙ l.invariant.1.1.1)))) ]
 
 pub shape_of-room : goal.shape_of-room
 shape_of-room c = c.loop-i.invariant.1.1.1

@@ -10,11 +10,11 @@ use Rattle.steps.proofs.lay.put_child.Goals as goal
 
 pub bounds-room-t-2 : goal.bounds-room-t-2
 bounds-room-t-2 c =
-    simp length-set (omega (arith, c.write_slot.auto.0, c.requires.0))
+    simp length-set (omega (arith, c.write_slot.auto.room, c.requires.0))
 
 pub returns : goal.returns
 returns c =
     let a = c.args in
-    let e : length a.t3 ≡ slot_bytes = search rules in
-    let b : get_or a.t3 0 0 + 1 < slot_bytes = omega (arith, c.requires.1) in
-    paste_child slot_bytes a.room.now c.write_slot.new.0 a.t3 (slot_bytes * a.t) (get_or a.t3 0 0) a.i (get_or a.t3 0 0 + 1) c.requires.0 e b c.write_slot.ensures
+    let e : length a.s ≡ slot_bytes = search rules in
+    let b : get_or a.s 0 0 + 1 < slot_bytes = omega (arith, c.requires.1) in
+    paste_child slot_bytes a.room.now c.write_slot.new.room a.s (slot_bytes * a.t) (get_or a.s 0 0) a.i (get_or a.s 0 0 + 1) c.requires.0 e b c.write_slot.ensures

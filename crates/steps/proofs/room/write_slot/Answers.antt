@@ -36,9 +36,9 @@ loop-j-preserved c =
     let l = c.loop-j in
     let a = c.args in
     let k : slot_bytes * a.t + l.j < length a.room.now = omega arith in
-    let e : length a.t3 ≡ slot_bytes = search rules in
-    let k17 : l.j < length a.t3 = omega arith in
-    (omega arith, (ap (λ (x : List ℕ). set x (slot_bytes * a.t + l.j) (get_or a.t3 l.j 0)) l.invariant.1.0 ∙ paste_more a.room.now (slot_bytes * a.t) a.t3 l.j k k17, simp length-set l.invariant.1.1))
+    let e : length a.s ≡ slot_bytes = search rules in
+    let k17 : l.j < length a.s = omega arith in
+    (omega arith, (ap (λ (x : List ℕ). set x (slot_bytes * a.t + l.j) (get_or a.s l.j 0)) l.invariant.1.0 ∙ paste_more a.room.now (slot_bytes * a.t) a.s l.j k k17, simp length-set l.invariant.1.1))
 
 pub shape_of-room : goal.shape_of-room
 shape_of-room c = c.loop-j.invariant.1.1

@@ -20,70 +20,57 @@ use Rattle.steps.proofs.Ends.{vain-none, vain-more, stop-refused, stop-exhausted
 use Rattle.steps.proofs.Levels.{Stands, stands-start, climbed, place_low, met, path-is, roots_are, stayed, sank}
 use Rattle.steps.proofs.Least.{row-found, row-none}
 use Rattle.steps.proofs.walk.walk.Goals as goal
-
--- each row of the state that the walk began with is a `u64`
-wide : (s : tie.Start invariant-loop decreases-loop) (j : ℕ) → Fits w64 (get_or s.args.from.ahead j 0)
-wide s j = search rules
+use Rattle.steps.proofs.walk.walk.Goals.{After-next_place-i, After-roots_over-tops, Joined-next-ne0, then-next-ne0, else-next-ne0}
 
 -- the place that is taken is below the bundle's limit
-low : (h : tie.After-next-place invariant-loop decreases-loop) → h.next_place.result < bundle_most
-low h = let S = h.before.before.before.loop.invariant.stands in omega (arith, place_low S h.next_place.ensures h.before.before.if1.false, S.few)
+low : (c : After-next_place-i) → c.next_place-i.result < bundle_most
+low c = let S = c.loop-row.invariant.stands in omega (arith, place_low S c.next_place-i.ensures c.if-row-eq0.false, S.few)
 
--- when the path's roots are known, what came before: the function's beginning, the choice of the place, the turn's beginning, the path by the place
-abbrev entry : tie.After-roots-over invariant-loop decreases-loop → tie.Start invariant-loop decreases-loop
-entry t = t.before.before.before.before.before.before.before.before.before.before.before.before.before.before.before
+-- ---- when the path's roots are known: the path by the place, and what the walk goes over
 
-abbrev chosen : tie.After-roots-over invariant-loop decreases-loop → tie.After-next-place invariant-loop decreases-loop
-chosen t = t.before.before.before.before.before.before.before
+abbrev path : After-roots_over-tops → List ℕ
+path c = snoc (take c.loop-row.d c.loop-row.place) c.next_place-i.result
 
-abbrev turn : tie.After-roots-over invariant-loop decreases-loop → tie.At-loop invariant-loop decreases-loop
-turn t = (chosen t).before.before.before
+abbrev graph : After-roots_over-tops → Places
+graph c = places_by c.args.rows.now c.args.n
 
-abbrev path : tie.After-roots-over invariant-loop decreases-loop → List ℕ
-path t = snoc (take (turn t).loop.d (turn t).loop.place) (chosen t).next_place.result
+abbrev began : After-roots_over-tops → List (List ℕ)
+began c = stack_of c.args.n c.args.from
 
-abbrev graph : tie.After-roots-over invariant-loop decreases-loop → Places
-graph t = places_by (entry t).args.rows.now (entry t).args.n
-
-abbrev began : tie.After-roots-over invariant-loop decreases-loop → List (List ℕ)
-began t = stack_of (entry t).args.n (entry t).args.from
-
-some : (t : tie.After-roots-over invariant-loop decreases-loop) → ¬ ((turn t).loop.row ≡ 0)
-some t = (chosen t).before.before.if1.false
-
-time : (t : tie.After-roots-over invariant-loop decreases-loop) → (turn t).loop.steps < (entry t).args.budget
-time t = omega (arith, (chosen t).before.if3.false)
+time : (c : After-roots_over-tops) → c.loop-row.steps < c.args.budget
+time c = omega (arith, c.if-budget-steps.false)
 
 -- the row without the place
-fewer : (t : tie.After-roots-over invariant-loop decreases-loop) → t.before.before.before.before.before.without.result ≡ left (turn t).loop.row (joined 0 (chosen t).next_place.result)
-fewer t = t.before.before.before.before.before.without.ensures ∙ ap (left (turn t).loop.row) t.before.before.before.before.before.before.with.ensures
+fewer : (c : After-roots_over-tops) → c.without-row.result ≡ left c.loop-row.row (joined 0 c.next_place-i.result)
+fewer c = c.without-row.ensures ∙ ap (left c.loop-row.row) c.with.ensures
 
 -- the path's roots as a row
-over : (t : tie.After-roots-over invariant-loop decreases-loop) → t.roots-over.result ≡ roots_over (entry t).args.roots.now (entry t).args.seats.now (path t)
-over t = roots_are (turn t).loop.invariant.stands (chosen t).next_place.ensures (some t) _ t.before.before.Standing-by.ensures t.roots-over.ensures
+over : (c : After-roots_over-tops) → c.roots_over-tops.result ≡ roots_over c.args.roots.now c.args.seats.now (path c)
+over c = roots_are c.loop-row.invariant.stands c.next_place-i.ensures c.if-row-eq0.false _ c.standing_by-standing.ensures c.roots_over-tops.ensures
 
 -- it was on top
-on-top : (t : tie.After-roots-over invariant-loop decreases-loop) → top (pops (graph t) (turn t).loop.steps (began t)) ≡ path t ∷ []
-on-top t = met (turn t).loop.invariant.stands (chosen t).next_place.ensures (some t)
+on_top : (c : After-roots_over-tops) → top (pops (graph c) c.loop-row.steps (began c)) ≡ path c ∷ []
+on_top c = met c.loop-row.invariant.stands c.next_place-i.ensures c.if-row-eq0.false
 
 -- the state after the step, and how deep it is
-moved : (c : tie.Joined4 invariant-loop decreases-loop) → let t = c.before in
-    Stands (graph t) (entry t).args.seats.now (began t) c.if4.ahead c.if4.levels
-    (set (turn t).loop.place (turn t).loop.d (chosen t).next_place.result) c.if4.row c.if4.here c.if4.d
-    ((turn t).loop.steps + 1)
-    × (c.if4.d ≤ (turn t).loop.d + 1)
+moved : (c : Joined-next-ne0)
+    → Stands (places_by c.args.rows.now c.args.n) c.args.seats.now (stack_of c.args.n c.args.from) c.if-next-ne0.ahead c.if-next-ne0.levels
+    (set c.loop-row.place c.loop-row.d c.next_place-i.result) c.if-next-ne0.row c.if-next-ne0.here c.if-next-ne0.d
+    (c.loop-row.steps + 1)
+    × (c.if-next-ne0.d ≤ c.loop-row.d + 1)
 moved c =
-    let t = c.before in
-    let S = (turn t).loop.invariant.stands in
-    let next = t.before.before.before.children.ensures in
-    ⊎_elim
-    (λ w. (rw (w.2, w.3, w.4, w.5, w.6) (sank S (chosen t).next_place.ensures (some t) _ (λ j. refl) next (fewer t) (w.1.ensures _ t.before.before.Standing-by.ensures) (omega (arith, w.0.taken)) (search rules)), omega (arith, w.4)))
-    (λ w. (rw (w.1, w.2, w.3, w.4, w.5) (stayed S (chosen t).next_place.ensures (some t) _ (λ j. refl) next (fewer t) w.0.left), omega (arith, w.3)))
-    c.if4.branch
+    let S = c.loop-row.invariant.stands in
+    let next = c.children-next.ensures in
+    let fewer = c.without-row.ensures ∙ ap (left c.loop-row.row) c.with.ensures in
+    elim c.if-next-ne0.branch [
+      then-next-ne0 w ↦
+        (rw (w.ahead-is, w.levels-is, w.row-is, w.here-is, w.d-is) (sank S c.next_place-i.ensures c.if-row-eq0.false _ (λ j. refl) next fewer (w.onward-here.ensures _ c.standing_by-standing.ensures) (omega (arith, w.if-next-ne0.true)) (search rules)), omega (arith, w.d-is))
+    | else-next-ne0 w ↦
+        (rw (w.ahead-is, w.levels-is, w.row-is, w.here-is, w.d-is) (stayed S c.next_place-i.ensures c.if-row-eq0.false _ (λ j. refl) next fewer w.if-next-ne0.false), omega (arith, w.d-is)) ]
 
 pub loop-row-init : goal.loop-row-init
 loop-row-init c =
-    record { stands = stands-start c.requires.0 (search rules) (search rules) (λ j. (wide c j).fits) c.requires.1; vain = vain-none; time = zero-le }
+    record { stands = stands-start c.requires.0 (search rules) (search rules) (λ j. (let wide : Fits w64 (get_or c.args.from.ahead j 0) = search rules in wide.fits)) c.requires.1; vain = vain-none; time = zero-le }
 
 pub returns-then-d-eq0 : goal.returns-then-d-eq0
 returns-then-d-eq0 c =
@@ -107,34 +94,34 @@ returns-then-budget-steps c =
     (stop-exhausted l.invariant.vain l.invariant.stands c.if-row-eq0.false l.invariant.time c.if-budget-steps.true)
 
 pub bounds-rows-i : goal.bounds-rows-i
-bounds-rows-i c = low c
+bounds-rows-i c = low (goal.at.bounds-rows-i c).After-next_place-i
 
 pub bounds-roots-i : goal.bounds-roots-i
-bounds-roots-i c = low c
+bounds-roots-i c = low (goal.at.bounds-roots-i c).After-next_place-i
 
 pub offset_bounds-ahead-d-then-tops-ne0 : goal.offset_bounds-ahead-d-then-tops-ne0
-offset_bounds-ahead-d-then-tops-ne0 c = search (rules, (moved c).0.deep)
+offset_bounds-ahead-d-then-tops-ne0 c = search (rules, (moved (goal.at.offset_bounds-ahead-d-then-tops-ne0 c).Joined-next-ne0).0.deep)
 
 pub bounds-ahead-d-then-tops-ne0 : goal.bounds-ahead-d-then-tops-ne0
-bounds-ahead-d-then-tops-ne0 c = (moved c).0.deep
+bounds-ahead-d-then-tops-ne0 c = (moved (goal.at.bounds-ahead-d-then-tops-ne0 c).Joined-next-ne0).0.deep
 
 pub stopped-requires-then-tops-ne0 : goal.stopped-requires-then-tops-ne0
-stopped-requires-then-tops-ne0 c = (moved c).0.deep
+stopped-requires-then-tops-ne0 c = (moved (goal.at.stopped-requires-then-tops-ne0 c).Joined-next-ne0).0.deep
 
 pub returns-then-tops-ne0 : goal.returns-then-tops-ne0
 returns-then-tops-ne0 c =
-    let l = (turn c).loop in
-    let r = row-found _ _ _ (over c) (omega (arith, c.if-tops-ne0.true)) (search rules) in
+    let l = c.loop-row in
+    let r = row-found _ _ _ (over (goal.at.returns-then-tops-ne0 c).After-roots_over-tops) (omega (arith, c.if-tops-ne0.true)) (search rules) in
     rw (c.stopped-then-tops-ne0.ensures, c.lowest.ensures)
-    (stop-accepted l.inv.vain (moved c).0 (on-top c) (time c) r (omega (arith, l.inv.stands.deep)) (path-is l.inv.stands (chosen c).next_place.ensures (some c)))
+    (stop-accepted l.invariant.vain (moved (goal.at.returns-then-tops-ne0 c).Joined-next-ne0).0 (on_top (goal.at.returns-then-tops-ne0 c).After-roots_over-tops) (time (goal.at.returns-then-tops-ne0 c).After-roots_over-tops) r (omega (arith, l.invariant.stands.deep)) (path-is l.invariant.stands c.next_place-i.ensures c.if-row-eq0.false))
 
 pub loop-row-smaller : goal.loop-row-smaller
-loop-row-smaller c = omega (arith, (moved c).1, time c)
+loop-row-smaller c = omega (arith, (moved (goal.at.loop-row-smaller c).Joined-next-ne0).1, time (goal.at.loop-row-smaller c).After-roots_over-tops)
 
 pub loop-row-preserved : goal.loop-row-preserved
 loop-row-preserved c =
     record {
-      stands = (moved c).0;
-      vain = vain-more (turn c).loop.invariant.vain (on-top c) (row-none _ _ _ (over c) c.if-tops-ne0.false);
-      time = omega (arith, time c);
+      stands = (moved (goal.at.loop-row-preserved c).Joined-next-ne0).0;
+      vain = vain-more c.loop-row.invariant.vain (on_top (goal.at.loop-row-preserved c).After-roots_over-tops) (row-none _ _ _ (over (goal.at.loop-row-preserved c).After-roots_over-tops) c.if-tops-ne0.false);
+      time = omega (arith, time (goal.at.loop-row-preserved c).After-roots_over-tops);
     }
