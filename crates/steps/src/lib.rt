@@ -1,6 +1,7 @@
 // The search over a question: it finds the first path that reaches a root under the policy, and what then waits is left in lent room. The
 // card file is left to others.
 #![tactic(auto)]
+
 mod lay;
 mod room;
 mod run;

@@ -1,9 +1,8 @@
 -- `lay_row` meets its contract. After i turns the children by the row's places below i lie above slot m.
 use mathlib.Core.Path.{◌≡◌, refl, ap, ◌∙◌, sym}
-use mathlib.Core.Logic.{⊎_elim}
 use mathlib.Core.Bool.{true}
 use mathlib.Core.List.{List}
-use Prim.Native.Nat.{ℕ, ◌+◌, ◌*◌, ◌-◌, ◌≤◌, ◌<◌}
+use Prim.Native.Nat.{ℕ, ◌+◌, ◌*◌, ◌≤◌, ◌<◌}
 use native.Mathlib.Omega.{arith}
 use lib.Seq.{paste}
 use lib.ListN.{length, take-append-drop}
@@ -40,22 +39,23 @@ loop-i-preserved c =
     let l = c.loop-i in
     let a = c.args in
     elim c.if-has.branch [
-      then-has w ↦
-        (let y : has l.i a.row ≡ true = sym c.has.ensures ∙ w.if-has.true in
-        let r : c.if-has.room ≡ paste l.room (slot_bytes * l.top) (slot_of (snoc (path_of a.s) l.i)) slot_bytes =
-        w.room-is ∙ w.put_child.ensures ∙ ap (λ (k : List ℕ). paste l.room (slot_bytes * l.top) k slot_bytes) (slot_next a.s l.i c.requires.s_value.0 c.requires.s_value.1) in (
-          omega arith,
-          (
-            w.top-is ∙ omega (arith, l.invariant.1.0, ap length (offered_yes a.row (path_of a.s) l.i y)),
+      | then-has w ↦
+          (let y : has l.i a.row ≡ true = sym c.has.ensures ∙ w.if-has.true in
+          let r : c.if-has.room ≡ paste l.room (slot_bytes * l.top) (slot_of (snoc (path_of a.s) l.i)) slot_bytes =
+          w.room-is ∙ w.put_child.ensures ∙ ap (λ (k : List ℕ). paste l.room (slot_bytes * l.top) k slot_bytes) (slot_next a.s l.i c.requires.s_value.0 c.requires.s_value.1) in (
+            omega arith,
             (
-              r ∙ rw w.top-is (child_room a.row (path_of a.s) a.n c.requires.s_value.1 l.i (omega arith) y a.room.now l.room a.m l.top c.requires.s_in_bounds l.invariant.1.0 l.invariant.1.1.0),
-              ap length w.room-is ∙ w.put_child.auto.room ∙ l.invariant.1.1.1,
+              w.top-is ∙ omega (arith, l.invariant.1.0, ap length (offered_yes a.row (path_of a.s) l.i y)),
+              (
+                r ∙ rw w.top-is (child_room a.row (path_of a.s) a.n c.requires.s_value.1 l.i (omega arith) y a.room.now l.room a.m l.top c.requires.s_in_bounds l.invariant.1.0 l.invariant.1.1.0),
+                ap length w.room-is ∙ w.put_child.auto.room ∙ l.invariant.1.1.1,
+              ),
             ),
-          ),
-        ))
-    | else-has w ↦
-        (let e = offered_no a.row (path_of a.s) l.i (sym c.has.ensures ∙ w.if-has.false) in
-        (omega arith, (w.top-is ∙ rw e l.invariant.1.0, (w.room-is ∙ rw (e, w.top-is) l.invariant.1.1.0, ap length w.room-is ∙ l.invariant.1.1.1)))) ]
+          ))
+      | else-has w ↦
+          (let e = offered_no a.row (path_of a.s) l.i (sym c.has.ensures ∙ w.if-has.false) in
+          (omega arith, (w.top-is ∙ rw e l.invariant.1.0, (w.room-is ∙ rw (e, w.top-is) l.invariant.1.1.0, ap length w.room-is ∙ l.invariant.1.1.1))))
+    ]
 
 pub shape_of-room : goal.shape_of-room
 shape_of-room c = c.loop-i.invariant.1.1.1

@@ -7,4 +7,4 @@ use Rattle.steps.proofs.walk.onward.Goals as goal
 
 pub returns : goal.returns
 unfolding onward
-returns c =    λ seats h. same_level (c.without-free.ensures ∙ ap (left c.args.level.free) c.with.ensures) h
+returns c = λ seats h. same_level (c.without-free.ensures ∙ ap (left c.args.level.free) c.with.ensures) h

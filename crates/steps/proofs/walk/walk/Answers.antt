@@ -2,10 +2,9 @@
 -- with, and none of the paths that they took qualifies.
 use borrow.Author.Rules.{rules}
 use native.Mathlib.Omega.{arith}
-use Prim.Native.Nat.{ℕ, ◌+◌, ◌-◌, ◌≤◌, ◌<◌, zero-le}
+use Prim.Native.Nat.{ℕ, ◌+◌, ◌≤◌, ◌<◌, zero-le}
 use mathlib.Core.Path.{◌≡◌, refl, ap, ◌∙◌}
 use mathlib.Core.List.{List, [], ◌∷◌}
-use mathlib.Core.Logic.{⊎_elim}
 use lib.ListN.{take, get_or, set}
 use mir.Syntax.{w64}
 use mir.Val.{Fits}
@@ -63,10 +62,11 @@ moved c =
     let next = c.children-next.ensures in
     let fewer = c.without-row.ensures ∙ ap (left c.loop-row.row) c.with.ensures in
     elim c.if-next-ne0.branch [
-      then-next-ne0 w ↦
-        (rw (w.ahead-is, w.levels-is, w.row-is, w.here-is, w.d-is) (sank S c.next_place-i.ensures c.if-row-eq0.false _ (λ j. refl) next fewer (w.onward-here.ensures _ c.standing_by-standing.ensures) (omega (arith, w.if-next-ne0.true)) (search rules)), omega (arith, w.d-is))
-    | else-next-ne0 w ↦
-        (rw (w.ahead-is, w.levels-is, w.row-is, w.here-is, w.d-is) (stayed S c.next_place-i.ensures c.if-row-eq0.false _ (λ j. refl) next fewer w.if-next-ne0.false), omega (arith, w.d-is)) ]
+      | then-next-ne0 w ↦
+          (rw (w.ahead-is, w.levels-is, w.row-is, w.here-is, w.d-is) (sank S c.next_place-i.ensures c.if-row-eq0.false _ (λ j. refl) next fewer (w.onward-here.ensures _ c.standing_by-standing.ensures) (omega (arith, w.if-next-ne0.true)) (search rules)), omega (arith, w.d-is))
+      | else-next-ne0 w ↦
+          (rw (w.ahead-is, w.levels-is, w.row-is, w.here-is, w.d-is) (stayed S c.next_place-i.ensures c.if-row-eq0.false _ (λ j. refl) next fewer w.if-next-ne0.false), omega (arith, w.d-is))
+    ]
 
 pub loop-row-init : goal.loop-row-init
 loop-row-init c =
