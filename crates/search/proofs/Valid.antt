@@ -35,6 +35,7 @@ among_at (x ∷ p) zero h = here refl
 among_at (x ∷ p) (suc i) h = there (among_at p i (omega arith))
 
 at_among : {x : ℕ} (p : List ℕ) → x among p → (i : ℕ) × (i < length p) × (x ≡ at p i)
+at_among [] m = elim m [ ]
 at_among (y ∷ p) (here e) = (0, omega arith, e)
 at_among (y ∷ p) (there m) = let (i, h, e) = at_among p m in (suc i, omega arith, e)
 
