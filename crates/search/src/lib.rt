@@ -1,6 +1,7 @@
 // The checker: finds the first path of a card file that reaches a root under the policy, in lent room. Every file, budget and room gets an
 // answer.
 #![tactic(auto)]
+
 ghost use Rattle.card.specs.Content.{content_p};
 ghost use Rattle.search.specs.Search.{Search, Pause};
 

@@ -28,7 +28,6 @@ use Rattle.reply.specs.declared.Answer.{Answer}
 use Rattle.reply.specs.declared.path.Path.{Path}
 use Rattle.reply.proofs.Faults.{runs-clear}
 use Rattle.reply.proofs.Unique.{Same, settles_unique}
-use Rattle.rules.specs.Rules.{at}
 use Rattle.search.specs.Search.{case_in, Search, Pause}
 use Rattle.search.proofs.One.{search_one, pause_one}
 use Rattle.stack.specs.Stacked.{blank, Whole}

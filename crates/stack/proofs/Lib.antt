@@ -1,11 +1,10 @@
-pub mod Again
 pub mod Agree
 pub mod Bytes
 pub mod Clearing
 pub mod Frauds
 pub mod Held
 pub mod Here
-pub mod Local
+pub mod Left
 pub mod Look
 pub mod Moved
 pub mod Ran
@@ -14,4 +13,3 @@ pub mod Shown
 pub mod Spread
 pub mod Taken
 pub mod Turns
-pub mod Whole

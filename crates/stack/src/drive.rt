@@ -8,7 +8,7 @@ ghost use Rattle.stack.specs.Stands.{lent, Stands, Rests};
 ghost use Rattle.stack.specs.declared.state.State.{State};
 
 use crate::begin::begin;
-use crate::records::{push, take};
+use crate::records::{push, take, whole};
 use crate::state::{State, after_put};
 use crate::turn::after_take;
 use places::BundlePlace;
@@ -19,6 +19,7 @@ use reply::{Answer, Path};
 pub(crate) fn run(file: &[u8], records: &mut [Path], paused: bool, k: u64) -> Answer
     ensures { Ran paused k (content_p file.now) (bytes_of records.old) (bytes_of records.new) result }
 {
+    whole(records);
     let begun = begin(file, records.len(), paused, k);
     let rows = begun.rows;
     let roots = begun.roots;

@@ -1,6 +1,7 @@
 // The search of a card file in lent records: they are its stack while it runs, a waiting path in each. It answers what the search in lent
 // bytes answers, and leaves in the records what that leaves in the slots.
 #![tactic(auto)]
+
 mod begin;
 mod child;
 mod drive;

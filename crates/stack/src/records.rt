@@ -1,6 +1,7 @@
 // A path put in a record of the stack, and a path taken from one.
 ghost use Rattle.std.specs.Prelude.{◌≡◌, ◌<◌, length, set, get_or};
-ghost use Rattle.stack.specs.Stacked.{blank};
+ghost use Rattle.places.specs.Limits.{bundle_most};
+ghost use Rattle.stack.specs.Stacked.{blank, Whole};
 
 use reply::Path;
 
@@ -17,3 +18,16 @@ pub(crate) fn take(records: &mut [Path], from: usize) -> Path
 {
     records[from]
 }
+
+// Each record has as many places as a path has. That is what its type says; here it is told of records that are lent, and nothing is done.
+pub(crate) fn whole(records: &[Path])
+    ensures { Whole records.now }
+{
+    for record in records {
+        full(*record);
+    }
+}
+
+fn full(path: Path)
+    ensures { length path.places ≡ bundle_most }
+{}
