@@ -89,7 +89,7 @@ module _ {A : Type 0} where
     keep_mem (x ∷ xs) {y} m =
         ⊎_elim (λ (e, t). (here e, ap f e ∙ t)) (λ k. let (l, t) = keep_mem xs k in (there l, t)) (put_mem (f x) m)
 
-    pub mem_keep : {xs : List A} {y : A} → y among xs → f y ≡ true → y among keep f xs
+    pub mem_keep : {y : A} {xs : List A} → y among xs → f y ≡ true → y among keep f xs
     mem_keep (here {x} {xs} e) t = rw (sym (ap f e) ∙ t) (here e)
     mem_keep (there {x} m) t = mem_put (f x) x (mem_keep m t)
 

@@ -57,6 +57,7 @@ used_mem i (x ∷ p) e = go (λ h. used_mem i p h) (eqb i x) refl e
     go rest false t h = there (rest h)
 
 pub mem_used : (i : ℕ) (p : List ℕ) → i among p → used i p ≡ true
+mem_used i [] m = elim m [ ]
 mem_used i (x ∷ p) (here e) = rw (← e) (rw (T_true (eqb i i) (eqb_refl i)))
 mem_used i (x ∷ p) (there m) = go (eqb i x) (mem_used i p m)
   where

@@ -10,8 +10,7 @@ use Rattle.places.specs.Limits.{bundle_most}
 use Rattle.order.specs.Slots.{slots_of}
 use Rattle.order.proofs.Formula.{slots_past}
 use Rattle.order.proofs.Table.{every, at}
-use Rattle.order.proofs.slots.Statement.{statement}
-use Rattle.order.proofs.slots.Tie as tie
+use Rattle.order.proofs.slots.Goals as goal
 
 -- an entry x at place n is right
 abbrev right : ℕ → ℕ → Bool
@@ -25,15 +24,9 @@ rule xs n h = by_test (every right 0 xs) refl
     by_test true e = eqb→eq (get_or xs n 0) (slots_of n) (at right xs (rw e tt) n h)
     by_test false e = refl
 
-array-read-result : tie.Need-array-read-result
-array-read-result c = search rules
-
 -- the test over the table in the code computes to yes
-returns : tie.Need-returns
-returns c = let h : c.before.args.n < bundle_most + 1 = search rules in rw rule
+pub returns-then-at-lt25 : goal.returns-then-at-lt25
+returns-then-at-lt25 c = let h : c.args.n < bundle_most + 1 = search rules in rw rule
 
-returns-2 : tie.Need-returns-2
-returns-2 c = sym (slots_past c.before.args.n (search rules))
-
-pub slots-spec : {M : Type 1} → statement M
-slots-spec = tie.close (tie.spec array-read-result returns returns-2)
+pub returns : goal.returns
+returns c = sym (slots_past c.args.n (search rules))
