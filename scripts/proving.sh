@@ -86,7 +86,7 @@ crates_of() { # NAME
 # Runs rt in a crate's folder. Ends the script where the proof failed.
 prove() { # COMMAND CRATE
     total=$(crates_of "$2")
-    say "proving $what: $total crates, less those that are proved already; all of them take some minutes"
+    say "proving $what: $total crates, less those that are proved already; from nothing that takes long"
     start env "TMPDIR=$rooms" sh -c 'cd "$0" && said=$1 && shift && exec "$@" >"$said" 2>&1' "$home/crates/$2" "$scratch/said" rt "$1" </dev/null
     follow
     finish || not_proved "$?"
@@ -117,9 +117,9 @@ follow() {
 tell_crates() {
     awk '/^crate [a-z_0-9]+: / { crate = substr($2, 1, length($2) - 1) } /^logic=proved / { print crate }' "$scratch/said" |
         tail -n "+$((told + 1))" >"$scratch/news"
-    while read -r crate; do
+    while read -r told_of; do
         told=$((told + 1))
-        say "$crate is proved, after $((now - began)) s"
+        say "$told_of is proved, after $((now - began)) s"
         spoke=$now
     done <"$scratch/news"
 }
@@ -130,7 +130,7 @@ not_proved() { # STATUS
     if grep -q '^rt: running ' "$scratch/said"; then
         die "$what was proved, but ended with status $1 on empty input"
     fi
-    grep -E '(^|: )error(\[|:)|^rt: .*(not|mend)' "$scratch/said" | head -n 20 >&2
+    grep -E "(^|: )error(\\[|:)|^(fn|struct|enum) .*: (not |no )|^rt: .*(not|mend)" "$scratch/said" | head -n 20 >&2
     case $1 in
     1 | 3) die "$what is NOT PROVED; $home/target/said has all that the prover said" ;;
     *) die "the prover failed with status $1, which says nothing of the proof; $home/target/said has what it said" ;;
