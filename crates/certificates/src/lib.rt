@@ -2,6 +2,7 @@
 // section before it ends; a list that was read is records, which are numbers and places in the file. The other sections are left to
 // the crates above.
 #![tactic(auto)]
+
 mod bundle;
 mod roots;
 

@@ -1,6 +1,7 @@
 // What a certificate's record has behind its names: key ids and a path length by its flags, and its lists. What was read is numbers and
 // places in the file. Which flags a record has, and what stands before, is left to the crate above.
 #![tactic(auto)]
+
 mod flags;
 
 ghost use Rattle.std.specs.Prelude.{◌≡◌};

@@ -2,6 +2,7 @@
 // A reader `X_at(file, at)` answers what stands at a place and the place past it, or why it can't be read.
 // Which pieces make up a record or a name is left to the crates above.
 #![tactic(auto)]
+
 mod count;
 mod fault;
 mod number;

@@ -1,5 +1,6 @@
 // Key identifiers and address ranges: whether an issuer is the one that a subject names, and whether an address lies in a range.
 #![tactic(auto)]
+
 mod address;
 mod auth_key_id;
 

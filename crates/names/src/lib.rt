@@ -1,6 +1,7 @@
 // Names as a card file encodes them: attributes, RDNs and names, and their readers.
 // When two of them are the same, and which names a certificate has, is left to the crates above.
 #![tactic(auto)]
+
 mod read;
 mod whole;
 

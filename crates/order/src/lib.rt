@@ -1,6 +1,7 @@
 // Simple paths, their order, a path's rank, and what waits after k steps: definitions in specs/ and theorems in proofs/. The one
 // function answers how many slots the waiting paths need; finding a path is left to the search.
 #![tactic(auto)]
+
 ghost use Rattle.std.specs.Prelude.{◌≡◌};
 ghost use Rattle.order.specs.Slots.{slots_of};
 

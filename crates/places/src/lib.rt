@@ -1,5 +1,6 @@
 // A place among the roots and a place in the bundle: two kinds of number, counted from 0, and how many of each a card has at most.
 #![tactic(auto)]
+
 #[derive(Clone, Copy)]
 pub struct RootPlace(pub u8);
 

@@ -2,6 +2,7 @@
 // read is four places in the file; what stands there is read again where it is asked for. What a file of records means is left to
 // the crate above.
 #![tactic(auto)]
+
 mod head;
 mod parties;
 mod strings;

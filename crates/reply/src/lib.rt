@@ -1,6 +1,7 @@
 // What is answered: the reply, the path beside it, and the lent room that a search needs. Whoever searches, answers by these; how a search
 // goes about it is left to the crates above.
 #![tactic(auto)]
+
 mod path;
 
 ghost use Rattle.std.specs.Prelude.{[], ◌≡◌};

@@ -1,5 +1,6 @@
 // A row: a set of places as the bits of one number. A row has room for as many places as any limit asks, so that one width serves all.
 #![tactic(auto)]
+
 ghost use Rattle.std.specs.Prelude.{◌≡◌};
 ghost use Rattle.rows.specs.Rows.{has, joined, left, common, either, lowest, highest, below};
 

@@ -3,6 +3,7 @@
 // Two names of one file are compared where they stand, by `same_names`; an RDN is searched for the attributes of another by
 // `has_name` and `matched_walk`. What lies under what is left to the crate above.
 #![tactic(auto)]
+
 mod matching;
 mod related;
 mod values;

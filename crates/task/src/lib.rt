@@ -1,6 +1,7 @@
 // The task of a card file: now, budget, purpose and host, read where the verdicts end. What is done with them is left to the crates
 // above.
 #![tactic(auto)]
+
 ghost use Rattle.std.specs.Prelude.{◌≡◌};
 ghost use Rattle.fields.specs.Fields.{stop, after};
 ghost use Rattle.fields.specs.Answers.{number, passed, passing, held, Emptied};

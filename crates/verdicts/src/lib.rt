@@ -1,6 +1,7 @@
 // The verdicts of a card file: who signed whom, a row for each issuer and a column for each subject, by where the first stands.
 // They are read where the bundle ends; what certificates stand at these places is left to the crates above.
 #![tactic(auto)]
+
 ghost use Rattle.std.specs.Prelude.{◌≡◌, ◌+◌, ◌*◌, ◌≤◌, length};
 ghost use Rattle.fields.specs.Fields.{got, stop, after, many};
 ghost use Rattle.fields.specs.Answers.{number, passed, held, Emptied};

@@ -1,6 +1,6 @@
 -- Up to eight bytes make the number that is defined. The loop's invariant: the value is the number of the bytes passed, and fits them.
 -- The measure is the number of bytes left.
-use Prim.Native.Nat.{ℕ, ◌-◌, ◌<◌}
+use Prim.Native.Nat.{ℕ, ◌<◌}
 use native.Mathlib.Omega.{arith}
 use mathlib.Core.Path.{◌≡◌, ◌∙◌}
 use mathlib.Core.List.{List}

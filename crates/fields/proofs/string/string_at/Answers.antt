@@ -1,9 +1,7 @@
 -- A string's span is read as it is defined: what the count answers decides, then whether the bytes are there.
 use native.Mathlib.Omega.{arith}
-use mathlib.Core.Path.{◌≡◌, sym, ap, ◌∙◌}
-use Rattle.fields.specs.Fields.{got, count_p}
-use Rattle.fields.specs.Answers.{counted}
-use Rattle.fields.proofs.Counts.{CountRead, count_read}
+use mathlib.Core.Path.{sym}
+use Rattle.fields.proofs.Counts.{count_read}
 use Rattle.fields.proofs.Strings.{span_stops, span_cut, span_got}
 use Rattle.fields.proofs.string.string_at.Goals as goal
 

@@ -1,6 +1,5 @@
 -- `equal_lowering` meets its contract. The loop's invariant: the lengths agree, and the strings are the same where the bytes were alike
 -- so far and what is left of them is the same. The measure is what is left.
-use Prim.Native.Nat.{◌-◌}
 use Rattle.text.specs.Private.{lowered_if}
 use Rattle.text.proofs.Same.{lengths_differ, alike_starts, alike_next, alike_ends}
 use Rattle.text.proofs.bytes.equal_lowering.Goals as goal

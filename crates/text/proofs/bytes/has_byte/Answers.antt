@@ -1,6 +1,5 @@
 -- `has_byte` meets its contract. The loop's invariant: the byte stands in the string where it stands in what is left of it.
 -- The measure is what is left.
-use Prim.Native.Nat.{◌-◌}
 use mathlib.Core.Path.{refl, sym, ◌∙◌}
 use Rattle.text.proofs.Same.{has_here, has-next, has_end}
 use Rattle.text.proofs.bytes.has_byte.Goals as goal

@@ -1,6 +1,5 @@
 -- `normalize_string` meets its contract. The loop's invariant is `State`, what is written so far and what is left to write;
 -- the measure is what is left of the string.
-use Prim.Native.Nat.{◌-◌}
 use mathlib.Core.Logic.{⊎_elim}
 use native.Mathlib.Omega.{arith}
 use Rattle.text.proofs.Form.{start, refused, space, one, two, gap_room, done}

@@ -1,13 +1,8 @@
 -- `match_lowering` meets its contract: a law of `Star` for each return, and what the calls ensure.
-use mathlib.Core.Path.{◌≡◌, sym, ap, ◌∙◌}
-use mathlib.Core.Bool.{Bool, true, not}
-use mathlib.Core.List.{List}
-use Prim.Native.Nat.{ℕ}
+use mathlib.Core.Path.{sym, ap, ◌∙◌}
+use mathlib.Core.Bool.{not}
 use native.Mathlib.Omega.{arith}
 use lib.ListN.{length-take}
-use borrow.Author.Tests.{not-true, not-false}
-use Rattle.text.specs.Bytes.{starts_with}
-use Rattle.text.specs.Wildcard.{star_dot}
 use Rattle.text.proofs.Same.{tail}
 use Rattle.text.proofs.Star.{plain, bare, short, labelled, elsewhere}
 use Rattle.text.proofs.wildcard.match_lowering.Goals as goal

@@ -1,0 +1,20 @@
+-- `dns_names_at` answers how many DNS names there are and where the first stands, and ends past them.
+use mathlib.Core.Path.{sym, ap, ◌∙◌}
+use Rattle.fields.specs.Answers.{counted, passed}
+use Rattle.lists.proofs.Runs.{list_got, list_stops, list_uncounted}
+use Rattle.lists.proofs.dns_names.dns_names_at.Goals as goal
+
+pub returns-in-Got-dns_names_past : goal.returns-in-Got-dns_names_past
+returns-in-Got-dns_names_past c =
+    sym
+    (list_got _ _ _ _ (sym c.count_at.ensures ∙ ap counted c.in-Got.is)
+    (sym c.dns_names_past.ensures ∙ ap passed c.in-Got-dns_names_past.is))
+
+pub returns-in-Stop-dns_names_past : goal.returns-in-Stop-dns_names_past
+returns-in-Stop-dns_names_past c =
+    sym
+    (list_stops _ _ _ _ (sym c.count_at.ensures ∙ ap counted c.in-Got.is)
+    (sym c.dns_names_past.ensures ∙ ap passed c.in-Stop-dns_names_past.is))
+
+pub returns-in-Stop : goal.returns-in-Stop
+returns-in-Stop c = sym (list_uncounted _ _ _ _ (sym c.count_at.ensures ∙ ap counted c.in-Stop.is))

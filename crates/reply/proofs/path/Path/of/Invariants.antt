@@ -1,0 +1,14 @@
+-- `Path::of` is the path of the first places. After j turns the first j are in it.
+use mathlib.Core.Path.{◌≡◌}
+use mathlib.Core.List.{◌++◌, map}
+use Prim.Native.Nat.{◌-◌, ◌≤◌}
+use lib.ListN.{length, take, drop}
+use Rattle.places.specs.Limits.{bundle_most}
+use Rattle.reply.specs.Numbers.{placed}
+use Rattle.reply.proofs.path.Path.of.Given as goal
+
+abbrev pub invariant-loop-j : goal.invariant-loop-j
+invariant-loop-j l = (l.n ≤ bundle_most) × (l.j ≤ l.n) × (l.places ≡ map placed (take l.j l.numbers) ++ drop l.j l.initial.places) × (length l.places ≡ bundle_most)
+
+abbrev pub decreases-loop-j : goal.decreases-loop-j
+decreases-loop-j l = l.n - l.j
