@@ -2,6 +2,7 @@
 // nothing is copied out of it. Each section has its own crate below, and its types are handed on here. Who issued whom, and what is
 // believed, is left to the crates above.
 #![tactic(auto)]
+
 ghost use Rattle.std.specs.Prelude.{◌≡◌, cond, leb, ltb, length};
 ghost use Rattle.fields.specs.Fields.{got, stop, after};
 ghost use Rattle.fields.specs.Answers.{passed, passing};

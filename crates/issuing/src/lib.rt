@@ -1,6 +1,7 @@
 // Who issued whom, of records that were read: likely issued, and found signed. Filled once into rows of bits, each pair of places
 // compared at most once; the search reads the rows.
 #![tactic(auto)]
+
 mod likely;
 mod row;
 

@@ -12,7 +12,7 @@ use lib.Dec.{eqb, leb, ltb}
 use lib.ListN.{length, get_or, set, replicate, length-set}
 use lib.Seq.{get_or-set_same, get_or-set_other}
 use Rattle.places.specs.Limits.{bundle_most}
-use Rattle.rows.specs.Rows.{has, joined, left, either, lowest, below}
+use Rattle.rows.specs.Rows.{has, joined, left, either, lowest}
 use Rattle.rows.proofs.Listing.{get_d_zeros}
 use Rattle.rows.proofs.Places.{has-none, has-joined, has_left, has_either, has_dropped, lowest_least}
 use Rattle.rows.proofs.Taking.{lowest-there}

@@ -1,6 +1,7 @@
 // What is believed: the policy on a chain, from the leaf to a root, made of the seven rules. What can be judged once per certificate is,
 // and a path stands by its places, one after another.
 #![tactic(auto)]
+
 mod judged;
 mod seating;
 mod standing;

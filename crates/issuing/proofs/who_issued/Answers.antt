@@ -1,5 +1,4 @@
 -- `who_issued` fills both rows of a subject in a turn. The invariant: the rows of the subjects below j, and zeros past them.
-use Prim.Native.Nat.{◌-◌}
 use mathlib.Core.Path.{ap, ◌∙◌}
 use Rattle.issuing.specs.Records.{claim_of, bundle_issued_at, root_issued_at, bundle_rows, root_rows}
 use Rattle.issuing.proofs.Turns.{rows_start, rows_turn, rows_whole}

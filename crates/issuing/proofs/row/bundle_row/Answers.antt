@@ -1,11 +1,8 @@
 -- `bundle_row` asks each bundle place once. The invariant: for a certificate whose claim it is, the row of those below i.
 use native.Mathlib.Omega.{arith}
-use Prim.Native.Nat.{◌-◌}
-use mathlib.Core.Logic.{⊎_elim}
 use mathlib.Core.Path.{◌∙◌}
 use Rattle.places.specs.Limits.{bundle_most}
 use Rattle.certificates.proofs.Records.{size-within, record_within}
-use Rattle.verdicts.specs.Grid.{bundle_signed}
 use Rattle.issuing.proofs.Turns.{row-starts, row-joined, row_unlikely, row_unsigned, row-whole}
 use Rattle.issuing.proofs.row.bundle_row.Goals as goal
 use Rattle.issuing.proofs.row.bundle_row.Goals.{then-bundle_signed+then-fits, then-bundle_signed+else-fits, else-bundle_signed}
@@ -27,9 +24,10 @@ loop-i-preserved c =
       λ cert h.
           let inv = l.invariant.1 cert h in
           elim c.if-bundle_signed.branch [
-            then-bundle_signed+then-fits w ↦ row-joined inv c.loop-i-test.true c.bundle_signed.ensures w.if-bundle_signed.true there (w.fits.ensures cert h) w.if-fits.true (w.row-is ∙ w.with-row.ensures)
-          | then-bundle_signed+else-fits w ↦ row_unlikely inv c.loop-i-test.true c.bundle_signed.ensures w.if-bundle_signed.true there (w.fits.ensures cert h) w.if-fits.false w.row-is
-          | else-bundle_signed w ↦ row_unsigned inv c.loop-i-test.true c.bundle_signed.ensures w.if-bundle_signed.false w.row-is ],
+            | then-bundle_signed+then-fits w ↦ row-joined inv c.loop-i-test.true c.bundle_signed.ensures w.if-bundle_signed.true there (w.fits.ensures cert h) w.if-fits.true (w.row-is ∙ w.with-row.ensures)
+            | then-bundle_signed+else-fits w ↦ row_unlikely inv c.loop-i-test.true c.bundle_signed.ensures w.if-bundle_signed.true there (w.fits.ensures cert h) w.if-fits.false w.row-is
+            | else-bundle_signed w ↦ row_unsigned inv c.loop-i-test.true c.bundle_signed.ensures w.if-bundle_signed.false w.row-is
+          ],
     )
 
 pub returns : goal.returns

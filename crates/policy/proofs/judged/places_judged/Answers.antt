@@ -1,9 +1,8 @@
 -- `places_judged` answers the places that may stand between leaf and root with their limits, those that are sound as the leaf, and those
 -- between that path lengths count. The invariant: the places below i are judged.
 use native.Mathlib.Omega.{arith}
-use Prim.Native.Nat.{◌-◌, ◌<◌}
+use Prim.Native.Nat.{◌<◌}
 use mathlib.Core.Bool.{Bool, true, false, not, ◌&&◌}
-use mathlib.Core.Logic.{⊎_elim}
 use mathlib.Core.Path.{◌≡◌, sym, ap, ◌∙◌}
 use Rattle.places.specs.Limits.{bundle_most}
 use Rattle.text.proofs.Each.{both_true}
@@ -45,20 +44,23 @@ loop-i-preserved c =
       j.1,
       omega arith,
       elim c.if-between_sound.branch [
-        then-between_sound+then-not-self_issued w ↦ judging_turn _ _ _ _ _ _ j.3 room _ _ true limit (test ∙ w.if-between_sound.true) (w.sound-is ∙ w.with-sound.ensures)
-      | then-between_sound+else-not-self_issued w ↦ judging_turn _ _ _ _ _ _ j.3 room _ _ true limit (test ∙ w.if-between_sound.true) (w.sound-is ∙ w.with-sound.ensures)
-      | else-between_sound w ↦ judging_turn _ _ _ _ _ _ j.3 room _ _ false limit (test ∙ w.if-between_sound.false) w.sound-is ],
+        | then-between_sound+then-not-self_issued w ↦ judging_turn _ _ _ _ _ _ j.3 room _ _ true limit (test ∙ w.if-between_sound.true) (w.sound-is ∙ w.with-sound.ensures)
+        | then-between_sound+else-not-self_issued w ↦ judging_turn _ _ _ _ _ _ j.3 room _ _ true limit (test ∙ w.if-between_sound.true) (w.sound-is ∙ w.with-sound.ensures)
+        | else-between_sound w ↦ judging_turn _ _ _ _ _ _ j.3 room _ _ false limit (test ∙ w.if-between_sound.false) w.sound-is
+      ],
       elim c.if-leaf_sound.branch [
-        then-leaf_sound w ↦ w.leaves-is ∙ w.with-leaves.ensures ∙ ap (λ row. joined row i) j.4 ∙ sym (row_more _ _ (leaf ∙ w.if-leaf_sound.true))
-      | else-leaf_sound w ↦ w.leaves-is ∙ j.4 ∙ sym (row_kept _ _ (leaf ∙ w.if-leaf_sound.false)) ],
+        | then-leaf_sound w ↦ w.leaves-is ∙ w.with-leaves.ensures ∙ ap (λ row. joined row i) j.4 ∙ sym (row_more _ _ (leaf ∙ w.if-leaf_sound.true))
+        | else-leaf_sound w ↦ w.leaves-is ∙ j.4 ∙ sym (row_kept _ _ (leaf ∙ w.if-leaf_sound.false))
+      ],
       elim c.if-between_sound.branch [
-        then-between_sound+then-not-self_issued w ↦
-          (let said = sym (ap not w.self_issued.ensures ∙ ap other there) in
-          w.counted-is ∙ w.with-counted.ensures ∙ ap (λ row. joined row i) j.5 ∙ sym (row_more _ _ ((both_true stands counts).1 (test ∙ w.if-between_sound.true, said ∙ ap not w.if-not-self_issued.true))))
-      | then-between_sound+else-not-self_issued w ↦
-          (let said = sym (ap not w.self_issued.ensures ∙ ap other there) in
-          w.counted-is ∙ j.5 ∙ sym (row_kept _ _ (and_no stands counts (said ∙ ap not w.if-not-self_issued.false))))
-      | else-between_sound w ↦ w.counted-is ∙ j.5 ∙ sym (row_kept _ _ (ap (λ b. b && counts) (test ∙ w.if-between_sound.false))) ],
+        | then-between_sound+then-not-self_issued w ↦
+            (let said = sym (ap not w.self_issued.ensures ∙ ap other there) in
+            w.counted-is ∙ w.with-counted.ensures ∙ ap (λ row. joined row i) j.5 ∙ sym (row_more _ _ ((both_true stands counts).1 (test ∙ w.if-between_sound.true, said ∙ ap not w.if-not-self_issued.true))))
+        | then-between_sound+else-not-self_issued w ↦
+            (let said = sym (ap not w.self_issued.ensures ∙ ap other there) in
+            w.counted-is ∙ j.5 ∙ sym (row_kept _ _ (and_no stands counts (said ∙ ap not w.if-not-self_issued.false))))
+        | else-between_sound w ↦ w.counted-is ∙ j.5 ∙ sym (row_kept _ _ (ap (λ b. b && counts) (test ∙ w.if-between_sound.false)))
+      ],
     )
 
 pub returns : goal.returns

@@ -1,9 +1,7 @@
 -- `roots_above` answers which of the roots that are asked for may stand above, and the limit of each of them, whatever the file is: the numbers are
 -- in the records. The invariant: i is the lowest of the rest, and those before it are judged. The measure: i grows.
 use native.Mathlib.Omega.{arith}
-use Prim.Native.Nat.{◌-◌, ◌≤◌}
 use mathlib.Core.Bool.{true, false}
-use mathlib.Core.Logic.{⊎_elim}
 use mathlib.Core.Path.{sym, ap, ◌∙◌}
 use Rattle.places.specs.Limits.{roots_most}
 use Rattle.record.specs.Parts.{certificate_of}
@@ -40,8 +38,9 @@ loop-i-preserved c =
       c.lowest-i-in-loop-i.ensures,
       rw rest
           (elim c.if-top_sound.branch [
-            then-top_sound w ↦ asking_turn _ _ _ _ few _ _ _ _ j.2 j.0 _ j.1 c.loop-i-test.true _ _ true limit (test ∙ w.if-top_sound.true) (w.sound-is ∙ w.with-sound.ensures)
-          | else-top_sound w ↦ asking_turn _ _ _ _ few _ _ _ _ j.2 j.0 _ j.1 c.loop-i-test.true _ _ false limit (test ∙ w.if-top_sound.false) w.sound-is ]),
+            | then-top_sound w ↦ asking_turn _ _ _ _ few _ _ _ _ j.2 j.0 _ j.1 c.loop-i-test.true _ _ true limit (test ∙ w.if-top_sound.true) (w.sound-is ∙ w.with-sound.ensures)
+            | else-top_sound w ↦ asking_turn _ _ _ _ few _ _ _ _ j.2 j.0 _ j.1 c.loop-i-test.true _ _ false limit (test ∙ w.if-top_sound.false) w.sound-is
+          ]),
     )
 
 pub returns : goal.returns

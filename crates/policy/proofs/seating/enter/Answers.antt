@@ -1,7 +1,7 @@
 -- `enter` puts each of a row in the row of its limit. The invariant: i is the lowest of the rest, and those that are not among the rest are
 -- in their row. The measure: i grows.
 use native.Mathlib.Omega.{arith}
-use Prim.Native.Nat.{ℕ, ◌-◌, ◌<◌, min}
+use Prim.Native.Nat.{ℕ, ◌<◌, min}
 use mathlib.Core.Path.{◌≡◌, sym, ap, ◌∙◌}
 use lib.ListN.{length, get_or}
 use Rattle.places.specs.Limits.{bundle_most}

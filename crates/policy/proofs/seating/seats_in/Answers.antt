@@ -1,14 +1,13 @@
 -- `seats_in` fills the three kinds of rows, and puts the leaves before the places that count.
 use native.Mathlib.Omega.{arith}
 use Prim.Native.Nat.{◌+◌, ◌*◌}
-use mathlib.Core.Path.{◌≡◌, sym, ap, ◌∙◌}
+use mathlib.Core.Path.{◌≡◌, ap, ◌∙◌}
 use lib.ListN.{length, replicate}
 use borrow.Author.Rules.{rules}
 use Rattle.places.specs.Limits.{roots_most, bundle_most}
 use Rattle.rows.specs.Rows.{common, left, below}
 use Rattle.policy.specs.Filling.{FilledFrom}
 use Rattle.policy.specs.Standing.{seats_most, places_between}
-use Rattle.policy.specs.declared.judged.Judged.{Judged}
 use Rattle.policy.proofs.ByKind.{limited, limited_common, limited_left, unfilled_starts, unfilled_empty, unfilled_next, seats-filled}
 use Rattle.policy.proofs.seating.seats_in.Goals as goal
 use Rattle.policy.proofs.seating.seats_in.Goals.{After-without-others, After-fill_from, After-fill_from-2}
