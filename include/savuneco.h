@@ -1,7 +1,7 @@
 /* Savuneco for C: whether the certificates in a card file lead from a host's own certificate to a trusted root.
 
    Every function answers for every input: there is no input that makes it fail, and none after which it may not be called again.
-   What each one answers is said here in words, and proved of the code in the words of crates/desk/src; docs/CARD-FILE.md has the
+   What each one answers is said here in words, and proved of the code in the words of crates/desk_c/src; docs/CARD-FILE.md has the
    card file byte by byte, the policy and the order of paths.
 
    Slices. Bytes, and records, are handed over as a pointer and then their number. The caller keeps three things:
@@ -13,9 +13,9 @@
    Flags (normalise, has_..) are 0 for no and anything else for yes.
 
    The library keeps nothing between calls, so threads may call it at the same time. It asks for no memory but the stack's (where
-   that was measured, on x86-64, search and paused run took about 5,200 bytes of it with lent bytes, and about 8,200 with lent
-   records), and calls nothing but memcpy and memset. The stack must be aligned at a call as the platform's calling convention says: on
-   x86-64 to 16 bytes. */
+   that was measured, on x86-64 with the kit before today's, search and paused run took about 5,200 bytes of it with lent bytes, and
+   about 8,200 with lent records), and calls nothing but memcpy and memset. The stack must be aligned at a call as the platform's
+   calling convention says: on x86-64 to 16 bytes. */
 #ifndef SAVUNECO_H
 #define SAVUNECO_H
 

@@ -40,9 +40,9 @@ scratch='' rooms='' child='' stop=''
 
 tidy() { rm -rf "$scratch" "$rooms"; }
 
-# `scratch` is a folder for the script alone; in `rooms` others keep what is theirs, and rt lets nobody run a program there.
+# `scratch` is a folder for the script alone; in `rooms` rt keeps what is its own.
 temporary() {
-    scratch=$(mktemp -d 2>/dev/null) && rooms=$(mktemp -d 2>/dev/null) && chmod 711 "$rooms" || die "no temporary folder can be made"
+    scratch=$(mktemp -d 2>/dev/null) && rooms=$(mktemp -d 2>/dev/null) || die "no temporary folder can be made"
 }
 
 # Ends what was started, with all that it has started. A child that has no group yet is ended by its own number.

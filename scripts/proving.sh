@@ -4,10 +4,16 @@
 need_kit() {
     need rt
     kit=$(rt version 2>&1) || die "the Rattle kit does not work: $kit"
+    need_x86_64
 }
 
-# One build at a time in a checkout. The lock is on the checkout's folder, since target/ may be removed. The prover inherits it, so that it
-# lasts as long as either lives; target/builder has the number of the script that took it.
+# The kit compiles for x86-64 alone.
+need_x86_64() {
+    [ "$(uname -m)" = x86_64 ] || die "the Rattle kit compiles for x86-64 alone, and this machine is $(uname -m)"
+}
+
+# One build at a time in a checkout, and none beside the gate. The lock is on the checkout's folder. The prover inherits it, so that it lasts
+# as long as either lives; target/builder has the number of the script that took it.
 lock() {
     [ -z "${locked-}" ] || return 0
     need flock setsid sha256sum
@@ -31,8 +37,8 @@ unlock() {
     locked=
 }
 
-# The checksum of all that is proved, and of the scripts, which say how it is built.
-sources() { (cd "$home" && find crates crates.txt scripts -type f -exec sha256sum {} + | sort | sha256sum); }
+# The checksum of all that is proved, and of the scripts, which say how it is built; of what rt keeps in crates/NAME/out nothing.
+sources() { (cd "$home" && find crates crates.txt scripts -path 'crates/*/out' -prune -o -type f -exec sha256sum {} + | sort | sha256sum); }
 
 # What a built file was made of: the kit, the machine, the sources and, so that no other file is taken for it, its own bytes.
 made_of() { # FILE KIT
@@ -73,18 +79,23 @@ crates_of() { # NAME
             for (k = 1; k <= m; k++) visit(a[k])
         }
         { sub(/#.*/, "") }
-        split($0, part, ":") == 2 { gsub(/[ \t]/, "", part[1]); uses[part[1]] = part[2] }
+        split($0, part, ":") == 2 { split(part[1], word, " "); uses[word[1]] = part[2] }
         END { visit(name); print count + 0 }' "$home/crates.txt"
 }
 
-# Runs rt in this checkout; its last word is the crate. Ends the script where the proof failed.
-prove() { # WORDS...
-    for crate; do :; done
-    total=$(crates_of "$crate")
-    say "proving $what: $total crates, less those that are proved already; all of them take some minutes"
-    start env "TMPDIR=$rooms" sh -c 'cd "$0" && said=$1 && shift && exec "$@" >"$said" 2>&1' "$home" "$scratch/said" "$@" </dev/null
+# Runs rt in a crate's folder. Ends the script where the proof failed.
+prove() { # COMMAND CRATE
+    total=$(crates_of "$2")
+    say "proving $what: $total crates, less those that are proved already; from nothing that takes long"
+    start env "TMPDIR=$rooms" sh -c 'cd "$0" && said=$1 && shift && exec "$@" >"$said" 2>&1' "$home/crates/$2" "$scratch/said" rt "$1" </dev/null
     follow
     finish || not_proved "$?"
+}
+
+# What rt built of a proved crate, put where this checkout's scripts look for it.
+keep() { # FROM TO
+    [ -f "$1" ] || die "$what was proved, but $1 was not made"
+    mkdir -p "$(dirname "$2")" && cp "$1" "$2" || die "$2 can't be written"
 }
 
 # Says how far the prover is until it ends.
@@ -96,49 +107,41 @@ follow() {
         now=$(date +%s)
         tell_crates
         [ -t 2 ] && [ $((now - spoke)) -ge 9 ] || continue
-        say "still proving after $((now - began)) s; $told of $total are proved"
+        say "still proving after $((now - began)) s"
         spoke=$now
     done
     tell_crates
 }
 
-# Says of each crate that was proved since the last time how many are proved and how long it took.
+# Says of each crate that was proved since the last time how many are proved, and when. Of one that rt has kept nothing is said.
 tell_crates() {
-    sed -n 's/^rt: \([A-Za-z0-9_]*\) proved (\(.*\))$/\1 \2/p' "$scratch/said" | tail -n "+$((told + 1))" >"$scratch/news"
-    while read -r crate took; do
+    awk '/^crate [a-z_0-9]+: / { crate = substr($2, 1, length($2) - 1) } /^logic=proved / { print crate }' "$scratch/said" |
+        tail -n "+$((told + 1))" >"$scratch/news"
+    while read -r told_of; do
         told=$((told + 1))
-        case $took in unchanged*) continue ;; esac
-        say "$told of $total proved; $crate took $took"
+        say "$told_of is proved, after $((now - began)) s"
         spoke=$now
     done <"$scratch/news"
 }
 
-# A proof that failed is one thing, and a prover that could not do its work another.
+# A proof that failed is one thing, and a prover that could not do its work another. What rt said stays in target/said.
 not_proved() { # STATUS
-    grep '^rt: ' "$scratch/said" | grep -Ev ' proved \(|: its dependency ' >&2 || tail -n 5 "$scratch/said" >&2
+    cp "$scratch/said" "$home/target/said"
+    if grep -q '^rt: running ' "$scratch/said"; then
+        die "$what was proved, but ended with status $1 on empty input"
+    fi
+    grep -E "(^|: )error(\\[|:)|^(fn|struct|enum) .*: (not |no )|^rt: .*(not|mend)" "$scratch/said" | head -n 20 >&2
     case $1 in
-    1 | 3) die "$what is NOT PROVED; $home/target/log has what the prover said of each crate" ;;
-    *) die "the prover failed with status $1, which says nothing of the proof" ;;
+    1 | 3) die "$what is NOT PROVED; $home/target/said has all that the prover said" ;;
+    *) die "the prover failed with status $1, which says nothing of the proof; $home/target/said has what it said" ;;
     esac
-}
-
-# Programs are for x86-64. For other machines the kit has an emulator, which rt uses too: `tools` is then where it stands, else empty.
-find_emulator() {
-    tools=
-    machine=$(uname -m)
-    [ "$machine" != x86_64 ] || return 0
-    need_kit
-    tools=$(dirname "$(dirname "$(rt doc)")")/on/$machine/toolchain
-    [ -x "$tools/bin/qemu-x86_64" ] || die "the Rattle kit has no emulator for this machine, $machine"
 }
 
 # The program that answers card files.
 terminal=$home/target/bin/terminal
 
+# rt runs a program that it has built: this one on empty input.
 make_terminal() { # FILE
-    # rt's stamp vouches for the sources alone, so that a program that is gone, or is not the one that was recorded, is built again
-    if [ ! -x "$1" ] || { [ -f "$1.made" ] && ! grep -q "^file $(sha256sum <"$1")\$" "$1.made"; }; then
-        rm -f "$home/target/stamp/terminal"
-    fi
-    prove rt check terminal
+    prove run terminal
+    keep "$home/crates/terminal/out/terminal" "$1"
 }

@@ -3,7 +3,7 @@
 use crate::answer::Answer;
 use reference::room::{Path, SLOT};
 
-// The place for the answer comes first: so the kit's module takes it on every machine (examples/by_value.c).
+// The place for the answer comes first: so x86-64's way of calling passes it.
 extern "C" {
     fn savuneco_search(
         answer: *mut Answer,

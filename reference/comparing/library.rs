@@ -47,7 +47,7 @@ pub struct Asked {
     certificates: u8,
 }
 
-// The place for an answer of more than two words comes first: so the kit's module takes it on every machine (examples/by_value.c).
+// The place for an answer of more than two words comes first: so x86-64's way of calling passes it.
 extern "C" {
     fn savuneco_task(asked: *mut Asked, file: *const u8, file_len: usize);
     fn savuneco_search(

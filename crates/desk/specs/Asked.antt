@@ -1,6 +1,6 @@
 -- What a card file asks, in plain numbers (docs/API.md, "What a file asks"): the contract of `savuneco_task`.
 -- Not here: what a file says (card/specs/Content.antt); that the host's bytes stand where this says, and that the search gives a fault the
--- same number (proofs/Asked.antt).
+-- same number (proofs/TaskAsked.antt).
 use Rattle.std.specs.Prelude.{ℕ, ◌-◌, length}
 use Rattle.fields.specs.Fields.{Parsed, got, stop}
 use Rattle.card.specs.Content.{Content}

@@ -1,6 +1,6 @@
-// The published face: the questions that a terminal asks, each as a Rattle function under its own name and as `savuneco_..` for C.
-// The crates below answer them; here their answers become plain numbers, and C's flags yes or no. What a file asks is told in plain
-// numbers alone (`savuneco_task`).
+// The published face: the questions that a terminal asks, each as a Rattle function under its own name and as `savuneco_..` for C, which
+// desk_c exports. The crates below answer them; here their answers become plain numbers, and C's flags yes or no. What a file asks is told
+// in plain numbers alone (`savuneco_task`).
 #![tactic(auto)]
 mod addresses;
 mod identity;

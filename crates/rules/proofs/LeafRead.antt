@@ -1,5 +1,5 @@
 -- What is asked of the leaf by the runs of its record is what is asked of the certificate, where the record stands in the file: usages
--- (`for_servers_read`) and the host (`for_host_read`). For policy/proofs/Seats.antt. By runs: specs/Records.antt; of the certificate:
+-- (`for_servers_read`) and the host (`for_host_read`). For policy/proofs/SeatsRead.antt. By runs: specs/Records.antt; of the certificate:
 -- specs/Rules.antt.
 use Prim.Native.Nat.{ℕ}
 use mathlib.Core.Path.{◌≡◌}

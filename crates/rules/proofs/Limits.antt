@@ -1,6 +1,6 @@
 -- A certificate's limit: its path length where it has one (`limit_given`), and else none (`no_limit`), for the proof of `limit`. A path
 -- length is a byte (`path_length_byte`). Of as many certificates as a path can have the limit says what the path length allows
--- (`limit_allows`, for policy/proofs/Seats.antt). The limit: specs/Limits.antt; the rule: specs/Rules.antt.
+-- (`limit_allows`, for policy/proofs/SeatsRead.antt). The limit: specs/Limits.antt; the rule: specs/Rules.antt.
 use Prim.Native.Nat.{ℕ, ◌≤◌}
 use mathlib.Core.Path.{◌≡◌, refl}
 use mathlib.Core.Bool.{true, false}
