@@ -38,7 +38,7 @@ EOF
 # Proves a crate and compiles the proved module, at -O3, for this machine.
 make_native() { # FILE, CRATE.o
     copy_kit
-    prove env "RATTLE_HOME=$scratch/kit" rt staticlib "$(basename "$1" .o)"
+    prove "$(basename "$1" .o)" env "RATTLE_HOME=$scratch/kit" rt staticlib "$(basename "$1" .o)"
     # on x86-64 no branch may lie across 32 bytes: where one does, the same walk takes up to a fifth longer, by where it happens to be put
     layout=
     [ "$machine" != x86_64 ] || layout=-mbranches-within-32B-boundaries
@@ -58,7 +58,7 @@ native_object() { # CRATE
 
 # ---- the archive that C and Rust programs link
 
-make_archive() { prove rt staticlib desk; }
+make_archive() { prove desk rt staticlib desk; }
 
 # What rt writes is for x86-64. NATIVE=1 in the environment takes the other way there too.
 as_rt_writes() { [ "$(uname -m)" = x86_64 ] && [ -z "${NATIVE:-}" ]; }

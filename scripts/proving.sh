@@ -32,7 +32,7 @@ unlock() {
 }
 
 # The checksum of all that is proved, and of the scripts, which say how it is built.
-sources() { (cd "$home" && find crates crates.txt scripts -type f -exec sha256sum {} + | sort | sha256sum); }
+sources() { (cd "$home" && find crates crates.txt scripts -name out -prune -o -type f -exec sha256sum {} + | sort | sha256sum); }
 
 # What a built file was made of: the kit, the machine, the sources and, so that no other file is taken for it, its own bytes.
 made_of() { # FILE KIT
@@ -77,12 +77,13 @@ crates_of() { # NAME
         END { visit(name); print count + 0 }' "$home/crates.txt"
 }
 
-# Runs rt in this checkout; its last word is the crate. Ends the script where the proof failed.
-prove() { # WORDS...
-    for crate; do :; done
+# Runs rt in a crate's folder. Ends the script where the proof failed.
+prove() { # CRATE WORDS...
+    crate=$1
+    shift
     total=$(crates_of "$crate")
     say "proving $what: $total crates, less those that are proved already; all of them take some minutes"
-    start env "TMPDIR=$rooms" sh -c 'cd "$0" && said=$1 && shift && exec "$@" >"$said" 2>&1' "$home" "$scratch/said" "$@" </dev/null
+    start env "TMPDIR=$rooms" sh -c 'cd "$0" && said=$1 && shift && exec "$@" >"$said" 2>&1' "$home/crates/$crate" "$scratch/said" "$@" </dev/null
     follow
     finish || not_proved "$?"
 }
@@ -102,22 +103,22 @@ follow() {
     tell_crates
 }
 
-# Says of each crate that was proved since the last time how many are proved and how long it took.
+# Says of each crate that was proved since the last time how many were.
 tell_crates() {
-    sed -n 's/^rt: \([A-Za-z0-9_]*\) proved (\(.*\))$/\1 \2/p' "$scratch/said" | tail -n "+$((told + 1))" >"$scratch/news"
-    while read -r crate took; do
+    awk '/^crate / { name = $2; sub(/:$/, "", name) } /^logic=proved / { print name }' "$scratch/said" | tail -n "+$((told + 1))" >"$scratch/news"
+    while read -r news; do
         told=$((told + 1))
-        case $took in unchanged*) continue ;; esac
-        say "$told of $total proved; $crate took $took"
+        say "$told of $total proved; $news is"
         spoke=$now
     done <"$scratch/news"
 }
 
 # A proof that failed is one thing, and a prover that could not do its work another.
 not_proved() { # STATUS
-    grep '^rt: ' "$scratch/said" | grep -Ev ' proved \(|: its dependency ' >&2 || tail -n 5 "$scratch/said" >&2
+    grep -E '^fn .*: (no proof|not proved)|: error' "$scratch/said" >&2 || tail -n 5 "$scratch/said" >&2
+    cp "$scratch/said" "$home/target/log"
     case $1 in
-    1 | 3) die "$what is NOT PROVED; $home/target/log has what the prover said of each crate" ;;
+    1 | 3) die "$what is NOT PROVED; $home/target/log has what the prover said" ;;
     *) die "the prover failed with status $1, which says nothing of the proof" ;;
     esac
 }
@@ -136,9 +137,9 @@ find_emulator() {
 terminal=$home/target/bin/terminal
 
 make_terminal() { # FILE
-    # rt's stamp vouches for the sources alone, so that a program that is gone, or is not the one that was recorded, is built again
-    if [ ! -x "$1" ] || { [ -f "$1.made" ] && ! grep -q "^file $(sha256sum <"$1")\$" "$1.made"; }; then
-        rm -f "$home/target/stamp/terminal"
-    fi
-    prove rt check terminal
+    # rt's stamp vouches for the sources alone, so the program is always linked anew; rt runs it too, on nothing
+    linked=$home/crates/terminal/out/terminal
+    rm -f "$linked" "$linked.stamp"
+    prove terminal rt run
+    mkdir -p "$(dirname "$1")" && cp "$linked" "$1" || die "$1 can't be written"
 }
