@@ -5,43 +5,45 @@ use crate::say::UNKNOWN;
 use crate::{believe, say};
 use keys::{check_auth_key_id, ip_addr_in_range};
 use same::{Related, same_attr, same_dn, same_rdn};
+use std::io::Result;
 use subtree::{is_subtree_of, is_subtree_rdn, rdn_has_name};
 use text::{equal, match_name, normalize_string};
 
 // Answers a line, with what stands behind its question.
-pub(crate) fn answer(line: &[u8]) {
-    let mut a = io::buffer();
-    let mut b = io::buffer();
-    let mut c = io::buffer();
-    let mut d = io::buffer();
+pub(crate) fn answer(rt: &impl Print, line: &[u8]) -> Result<()> {
+    let mut a = [0u8; 4096];
+    let mut b = [0u8; 4096];
+    let mut c = [0u8; 4096];
+    let mut d = [0u8; 4096];
     ask(
+        rt,
         line,
         unescape(line, 2, &mut a),
         unescape(line, 3, &mut b),
         unescape(line, 4, &mut c),
         unescape(line, 5, &mut d),
-    );
+    )
 }
 
-fn ask(line: &[u8], a: &[u8], b: &[u8], c: &[u8], d: &[u8]) {
+fn ask(rt: &impl Print, line: &[u8], a: &[u8], b: &[u8], c: &[u8], d: &[u8]) -> Result<()> {
     let label = part(line, b'|', 0);
     let question = part(line, b'|', 1);
     match count(line, b'|') {
-        3 => two(label, question, a, b),
-        4 => say::reply(label, related(question, a, b, c)),
-        5 => say::reply(label, key_ids(question, a, b, c, d)),
-        _ => say::reply(label, UNKNOWN),
+        3 => two(rt, label, question, a, b),
+        4 => say::reply(rt, label, related(question, a, b, c)),
+        5 => say::reply(rt, label, key_ids(question, a, b, c, d)),
+        _ => say::reply(rt, label, UNKNOWN),
     }
 }
 
 // normalize_string|ROOM|STRING, match_name|PATTERN|NAME, ip_addr_in_range|RANGE|ADDRESS and lowest_root|PATH|CARD
-fn two(label: &[u8], question: &[u8], a: &[u8], b: &[u8]) {
+fn two(rt: &impl Print, label: &[u8], question: &[u8], a: &[u8], b: &[u8]) -> Result<()> {
     match question_place(question) {
-        0 => normal_form(label, a, b),
-        1 => say::reply(label, say::yes_no(match_name(a, b))),
-        2 => say::reply(label, say::yes_no(ip_addr_in_range(a, b))),
-        3 => believe::lowest_root(label, a, b),
-        _ => say::reply(label, UNKNOWN),
+        0 => normal_form(rt, label, a, b),
+        1 => say::reply(rt, label, say::yes_no(match_name(a, b))),
+        2 => say::reply(rt, label, say::yes_no(ip_addr_in_range(a, b))),
+        3 => believe::lowest_root(rt, label, a, b),
+        _ => say::reply(rt, label, UNKNOWN),
     }
 }
 
@@ -53,15 +55,14 @@ fn question_place(question: &[u8]) -> usize {
     )
 }
 
-fn normal_form(label: &[u8], number: &[u8], s: &[u8]) {
+fn normal_form(rt: &impl Print, label: &[u8], number: &[u8], s: &[u8]) -> Result<()> {
     let lent = place(b"0|1|2|3|4|5|6|7|8|", number);
     if 8 < lent {
-        say::reply(label, UNKNOWN);
-        return;
+        return say::reply(rt, label, UNKNOWN);
     }
     let mut room = [b'#'; 8];
     let answer = normalize_string(s, &mut room[0..lent]);
-    say::normalised(label, answer, &room);
+    say::normalised(rt, label, answer, &room)
 }
 
 // RELATION|FLAG|ARGUMENT|ARGUMENT

@@ -4,16 +4,16 @@ use card::{Bundle, Card, Ended, read};
 use policy::{Judged, Seats, Standing, added, begun, judge, over, seats_of};
 use rows::{Row, lowest, shared};
 use rules::Time;
+use std::io::Result;
 
 // lowest_root|PATH|CARD
-pub(crate) fn lowest_root(label: &[u8], path: &[u8], file: &[u8]) {
+pub(crate) fn lowest_root(rt: &impl Print, label: &[u8], path: &[u8], file: &[u8]) -> Result<()> {
     let reading = read(file);
     let ended = reading.ended;
     if let Ended::Stop(fault) = ended {
-        say::reply(label, fault.number() as usize);
-        return;
+        return say::reply(rt, label, fault.number() as usize);
     }
-    say::top(label, top_of(path, file, reading.card));
+    say::top(rt, label, top_of(path, file, reading.card))
 }
 
 // The lowest root by which a path qualifies; as many as a row has room for where there is none. An empty path has none, nor has one with a

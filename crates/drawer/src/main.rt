@@ -15,31 +15,34 @@
 // Empty lines and lines that begin with # are skipped; a line of no form above is answered `unknown question`.
 // An argument has at most 4,096 bytes and the whole input 65,536: what is over is not read.
 #![tactic(auto)]
+
 mod ask;
 mod believe;
 mod bytes;
 mod lines;
 mod say;
 
-use libc::STDIN_FILENO;
+use intake::fill;
 use lines::{count, part};
+use std::io::Result;
 
-fn main() {
-    let mut buf = io::large_buffer();
-    let n = io::read_full(STDIN_FILENO, &mut buf);
-    answer_all(&buf[..n]);
+fn main(rt: HostRuntime) -> Result<()> {
+    let mut buf = [0u8; 65536];
+    let n = fill(&mut rt.reader(), &mut buf)?;
+    answer_all(&rt, &buf[..n])
 }
 
-fn answer_all(file: &[u8]) {
+fn answer_all(rt: &impl Print, file: &[u8]) -> Result<()> {
     let n = count(file, b'\n');
     let mut i: usize = 0;
     while i < n {
         let line = part(file, b'\n', i);
         if is_case(line) {
-            ask::answer(line);
+            ask::answer(rt, line)?;
         }
         i += 1;
     }
+    Ok(())
 }
 
 fn is_case(line: &[u8]) -> bool {

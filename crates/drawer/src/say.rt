@@ -1,7 +1,7 @@
 // What is written: one line for each case, its label and the reply.
 use crate::lines::part;
-use libc::STDOUT_FILENO;
 use rows::Row;
+use std::io::Result;
 use text::Normalized;
 
 // A reply is a number: 0 is no, 1 is yes, a fault has its own up to 10, and this one is that there is no such question.
@@ -11,40 +11,41 @@ pub(crate) fn yes_no(yes: bool) -> usize {
     if yes { 1 } else { 0 }
 }
 
-pub(crate) fn reply(label: &[u8], number: usize) {
-    put(label);
-    put(b": ");
-    put(part(b"no|yes|2|3|4|5|6|7|8|9|10|unknown question", b'|', number));
-    put(b"\n");
+pub(crate) fn reply(rt: &impl Print, label: &[u8], number: usize) -> Result<()> {
+    rt.write_all(label)?;
+    rt.write_all(b": ")?;
+    rt.write_all(part(b"no|yes|2|3|4|5|6|7|8|9|10|unknown question", b'|', number))?;
+    rt.write_all(b"\n")
 }
 
 // The reply, and after it the eight bytes of which the lent room is the start.
-pub(crate) fn normalised(label: &[u8], reply: Normalized, room: &[u8; 8]) {
-    put(label);
+pub(crate) fn normalised(
+    rt: &impl Print,
+    label: &[u8],
+    reply: Normalized,
+    room: &[u8; 8],
+) -> Result<()> {
+    rt.write_all(label)?;
     match reply {
         Normalized::Length(n) => {
-            put(b": length ");
-            io::print_decimal(STDOUT_FILENO, n as u64);
+            rt.write_all(b": length ")?;
+            rt.print(n)?;
         }
-        Normalized::NoRoom => put(b": 10"),
+        Normalized::NoRoom => rt.write_all(b": 10")?,
     }
-    put(b", room: ");
-    put(room);
-    put(b"\n");
+    rt.write_all(b", room: ")?;
+    rt.write_all(room)?;
+    rt.write_all(b"\n")
 }
 
 // The root above a path, or that there is none.
-pub(crate) fn top(label: &[u8], root: u8) {
-    put(label);
+pub(crate) fn top(rt: &impl Print, label: &[u8], root: u8) -> Result<()> {
+    rt.write_all(label)?;
     if root < Row::PLACES {
-        put(b": root ");
-        io::print_decimal(STDOUT_FILENO, root as u64);
+        rt.write_all(b": root ")?;
+        rt.print(root)?;
     } else {
-        put(b": no root");
+        rt.write_all(b": no root")?;
     }
-    put(b"\n");
-}
-
-fn put(s: &[u8]) {
-    io::write_all(STDOUT_FILENO, s);
+    rt.write_all(b"\n")
 }

@@ -6,45 +6,60 @@
 // that number, are recorded from reference/, an ordinary Rust version (`reference waiting`); so are, of 0662 and 0676, those for the first k
 // after which a path of 19 places waits (`reference paused`).
 #![tactic(auto)]
+
 mod waiting;
 
-use libc::STDOUT_FILENO;
+use intake::fill;
+use std::env::{Env, FillError};
+use std::io::{ErrorKind, Read, Result};
+use std::rt::Files;
+use std::{fs, str};
 use waiting::{name_at, number, pause};
 
-fn main() {
-    let n = os::arg_count();
-    let mut i: usize = 1;
-    while i < n {
-        replay(i);
-        i += 1;
+fn main(rt: HostRuntime) -> Result<()> {
+    for i in 1..usize::MAX {
+        if !replay(&rt, i)? {
+            break;
+        }
     }
+    Ok(())
 }
 
-fn replay(i: usize) {
-    let mut word = io::buffer();
-    let n = os::arg(i, &mut word);
-    say(&word[..n]);
-    answer(&word[..n]);
+// Whether there is such an argument. One that is longer than the buffer counts as an empty one.
+fn replay<R: Env + Files + Print>(rt: &R, i: usize) -> Result<bool> {
+    let mut word = [0u8; 4096];
+    let n = match rt.arg(i, &mut word) {
+        Ok(n) => n,
+        Err(FillError::TooLong) => 0,
+        Err(FillError::NotPresent) => return Ok(false),
+    };
+    rt.write_all(&word[..n])?;
+    answer(rt, &word[..n])?;
+    Ok(true)
 }
 
-fn answer(word: &[u8]) {
+fn answer<R: Files + Print>(rt: &R, word: &[u8]) -> Result<()> {
     let at = name_at(word);
     if at == 0 {
-        say(b" is not K:NAME\n");
-        return;
+        return rt.write_all(b" is not K:NAME\n");
     }
-    let fd = os::open_read(&word[at..]);
-    if fd < 0 {
-        say(b" can't be opened\n");
-        return;
+    match open(rt, &word[at..]) {
+        Ok(mut file) => replay_file(rt, &mut file, number(word)),
+        Err(_) => rt.write_all(b" can't be opened\n"),
     }
-    let mut file = io::large_buffer();
-    let n = io::read_full(fd, &mut file);
-    libc::close(fd);
-    say(b" ");
-    pause(&file[..n], number(word));
 }
 
-pub(crate) fn say(bytes: &[u8]) {
-    io::write_all(STDOUT_FILENO, bytes);
+// A name that is not UTF-8 opens nothing.
+fn open<R: Files>(rt: &R, name: &[u8]) -> Result<R::File> {
+    match str::from_utf8(name) {
+        Ok(path) => fs::open(rt, path),
+        Err(_) => Err(ErrorKind::InvalidFilename.into()),
+    }
+}
+
+fn replay_file<P: Print, F: Read>(rt: &P, reader: &mut F, k: u64) -> Result<()> {
+    let mut file = [0u8; 65536];
+    let n = fill(reader, &mut file)?;
+    rt.write_all(b" ")?;
+    pause(rt, &file[..n], k)
 }

@@ -1,11 +1,10 @@
 // The paused run, and the paths that wait after it.
 ghost use Rattle.std.specs.Prelude.{◌≤◌, length};
 
-use crate::say;
-use libc::STDOUT_FILENO;
 use reply::{Answer, Slot};
 use report::{Room, line_of};
 use search::paused;
+use std::io::Result;
 
 // Where the name in K:NAME begins; 0 where there is no colon.
 pub(crate) fn name_at(word: &[u8]) -> usize
@@ -41,49 +40,50 @@ fn digit(b: u8) -> u64
     }
 }
 
-pub(crate) fn pause(file: &[u8], k: u64) {
+pub(crate) fn pause(rt: &impl Print, file: &[u8], k: u64) -> Result<()> {
     let mut room = [0u8; Room::BYTES];
-    run(file, k, &mut room);
+    run(rt, file, k, &mut room)
 }
 
-fn run(file: &[u8], k: u64, room: &mut [u8]) {
-    line(paused(file, k, room));
-    paths(room);
+fn run(rt: &impl Print, file: &[u8], k: u64, room: &mut [u8]) -> Result<()> {
+    line(rt, paused(file, k, room))?;
+    paths(rt, room)
 }
 
-fn line(answer: Answer) {
+fn line(rt: &impl Print, answer: Answer) -> Result<()> {
     let line = line_of(answer);
     let length = line.length;
     let bytes = line.bytes;
-    say(&bytes[..length]);
+    rt.write_all(&bytes[..length])
 }
 
 // Writes the paths in the lowest slots.
-fn paths(room: &[u8]) {
+fn paths(rt: &impl Print, room: &[u8]) -> Result<()> {
     let mut at: usize = 0;
     while Slot::BYTES <= room.len() - at {
         let slot = &room[at..at + Slot::BYTES];
         if slot[0] == 0 {
-            return;
+            return Ok(());
         }
-        path(slot);
+        path(rt, slot)?;
         at += Slot::BYTES;
     }
+    Ok(())
 }
 
-fn path(slot: &[u8]) {
-    say(b"WAITS");
+fn path(rt: &impl Print, slot: &[u8]) -> Result<()> {
+    rt.write_all(b"WAITS")?;
     let mut i: usize = 1;
     while i < slot.len() && i <= wide(slot[0]) {
-        place(slot[i]);
+        place(rt, slot[i])?;
         i += 1;
     }
-    say(b"\n");
+    rt.write_all(b"\n")
 }
 
-fn place(place: u8) {
-    say(b" ");
-    io::print_decimal(STDOUT_FILENO, place as u64);
+fn place(rt: &impl Print, place: u8) -> Result<()> {
+    rt.write_all(b" ")?;
+    rt.print(place)
 }
 
 fn wide(x: u8) -> usize {

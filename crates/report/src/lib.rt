@@ -1,6 +1,7 @@
 // What is written: one line for an answer, in the words of the card-file paper, and the line that replies to a card file. Reading the
 // file's bytes and writing the line's are left to the programs.
 #![tactic(auto)]
+
 mod line;
 mod replying;
 

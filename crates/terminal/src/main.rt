@@ -8,8 +8,9 @@
 // Those from 0640 up are about how many certificates there may be: up to 0679 the file counts more than 16 in the bundle or more than 32
 // roots, from 0680 up no more than those.
 #![tactic(auto)]
+
 use window::serve;
 
-fn main() {
-    serve();
+fn main(rt: HostRuntime) {
+    serve(&rt, &rt.stderr());
 }

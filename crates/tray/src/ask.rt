@@ -7,13 +7,14 @@ use crate::words::{card, number};
 use reply::Answer;
 use report::Room;
 use search::{paused, search};
+use std::io::Result;
 use text::equal;
 
 // The most bytes of room that are lent: more than any card needs.
 const MOST: usize = 2 * Room::BYTES;
 
 // LABEL|QUESTION|ROOM|CARD; a field that is missing is empty.
-pub(crate) fn answer(line: &[u8]) {
+pub(crate) fn answer(rt: &impl Print, line: &[u8]) -> Result<()> {
     let label = end_at(line, 0, b'|');
     let second = behind(line, label);
     let question = end_at(line, second, b'|');
@@ -21,22 +22,24 @@ pub(crate) fn answer(line: &[u8]) {
     let room = end_at(line, third, b'|');
     let fourth = behind(line, room);
     lend(
+        rt,
         &line[0..label],
         &line[second..question],
         number(&line[third..room]),
         &line[fourth..],
-    );
+    )
 }
 
-fn lend(label: &[u8], question: &[u8], lent: usize, text: &[u8]) {
-    let mut bytes = io::large_buffer();
+fn lend(rt: &impl Print, label: &[u8], question: &[u8], lent: usize, text: &[u8]) -> Result<()> {
+    let mut bytes = [0u8; 65536];
     let mut room = [b'#'; MOST];
     ask(
+        rt,
         label,
         question,
         card(text, &mut bytes),
         &mut room[0..least(lent)],
-    );
+    )
 }
 
 fn least(lent: usize) -> usize
@@ -45,9 +48,9 @@ fn least(lent: usize) -> usize
     if lent < MOST { lent } else { MOST }
 }
 
-fn ask(label: &[u8], question: &[u8], file: &[u8], room: &mut [u8]) {
+fn ask(rt: &impl Print, label: &[u8], question: &[u8], file: &[u8], room: &mut [u8]) -> Result<()> {
     let answer = found(question, file, room);
-    show::answer(label, answer, room);
+    show::answer(rt, label, answer, room)
 }
 
 fn found(question: &[u8], file: &[u8], room: &mut [u8]) -> Answer {

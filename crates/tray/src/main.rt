@@ -12,35 +12,38 @@
 // An answer is the label, the line that the terminal writes for such an answer, and the lent room as the search leaves it: the paths in its lowest slots,
 // then how many bytes are zero, how many are # and how many are left.
 #![tactic(auto)]
+
 mod ask;
 mod lines;
 mod show;
 mod words;
 
-use libc::STDIN_FILENO;
+use intake::fill;
 use lines::end_at;
+use std::io::Result;
 
-fn main() {
-    let mut buf = io::large_buffer();
-    let n = io::read_full(STDIN_FILENO, &mut buf);
-    answer_all(&buf[..n]);
+fn main(rt: HostRuntime) -> Result<()> {
+    let mut buf = [0u8; 65536];
+    let n = fill(&mut rt.reader(), &mut buf)?;
+    answer_all(&rt, &buf[..n])
 }
 
-fn answer_all(file: &[u8]) {
+fn answer_all(rt: &impl Print, file: &[u8]) -> Result<()> {
     let mut at: usize = 0;
     while at < file.len() {
         let end = end_at(file, at, b'\n');
-        line(&file[at..end]);
+        line(rt, &file[at..end])?;
         at = end + 1;
     }
+    Ok(())
 }
 
-fn line(line: &[u8]) {
+fn line(rt: &impl Print, line: &[u8]) -> Result<()> {
     if line.len() == 0 {
-        return;
+        return Ok(());
     }
     if line[0] == b'#' {
-        return;
+        return Ok(());
     }
-    ask::answer(line);
+    ask::answer(rt, line)
 }

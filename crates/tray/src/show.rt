@@ -1,49 +1,49 @@
 // What is written of a case: its label, the terminal's line, and the room as slots.
-ghost use Rattle.std.specs.Prelude.{◌≤◌, length};
+ghost use Rattle.std.specs.Prelude.{◌≤◌, length, IfOk};
 
 use crate::lines::{end_at, run_end};
-use libc::STDOUT_FILENO;
 use reply::{Answer, Slot};
 use report::line_of;
+use std::io::Result;
 
-pub(crate) fn answer(label: &[u8], answer: Answer, room: &[u8]) {
-    put(label);
-    put(b": ");
-    reply(answer);
-    put(b", room:");
-    slots(room);
-    put(b"\n");
+pub(crate) fn answer(rt: &impl Print, label: &[u8], answer: Answer, room: &[u8]) -> Result<()> {
+    rt.write_all(label)?;
+    rt.write_all(b": ")?;
+    reply(rt, answer)?;
+    rt.write_all(b", room:")?;
+    slots(rt, room)?;
+    rt.write_all(b"\n")
 }
 
 // Writes the terminal's line for an answer, up to its newline.
-fn reply(answer: Answer) {
+fn reply(rt: &impl Print, answer: Answer) -> Result<()> {
     let line = line_of(answer);
     let bytes = line.bytes;
     let end = end_at(&bytes, 0, b'\n');
-    put(&bytes[0..end]);
+    rt.write_all(&bytes[0..end])
 }
 
 // Writes the paths in the lowest slots; then how many bytes are zero, how many are as they were lent, and how many are left.
-fn slots(s: &[u8]) {
-    let zeros = paths(s);
+fn slots(rt: &impl Print, s: &[u8]) -> Result<()> {
+    let zeros = paths(rt, s)?;
     let lent = run_end(s, zeros, 0);
     let others = run_end(s, lent, b'#');
-    run(lent - zeros, b" zeros");
-    run(others - lent, b" #");
-    run(s.len() - others, b" others");
+    run(rt, lent - zeros, b" zeros")?;
+    run(rt, others - lent, b" #")?;
+    run(rt, s.len() - others, b" others")
 }
 
-fn run(n: usize, name: &[u8]) {
+fn run(rt: &impl Print, n: usize, name: &[u8]) -> Result<()> {
     if n == 0 {
-        return;
+        return Ok(());
     }
-    count(b" ", n as u64);
-    put(name);
+    count(rt, b" ", n as u64)?;
+    rt.write_all(name)
 }
 
 // Writes the paths in the lowest slots; where they end.
-fn paths(s: &[u8]) -> usize
-    ensures { result ≤ length s.now }
+fn paths(rt: &impl Print, s: &[u8]) -> Result<usize>
+    ensures { IfOk result (λ n. n ≤ length s.now) }
 {
     let mut at: usize = 0;
     while Slot::BYTES <= s.len() - at {
@@ -51,10 +51,10 @@ fn paths(s: &[u8]) -> usize
         if !is_path(slot) {
             break;
         }
-        path(slot);
+        path(rt, slot)?;
         at += Slot::BYTES;
     }
-    at
+    Ok(at)
 }
 
 // Whether a slot holds a path: a length from 1 to as many places as a slot has, and zeros past so many places.
@@ -73,22 +73,21 @@ fn is_path(slot: &[u8]) -> bool {
 }
 
 // Writes the path in a slot.
-fn path(slot: &[u8]) {
+fn path(rt: &impl Print, slot: &[u8]) -> Result<()> {
     let mut i: usize = 1;
     while i < slot.len() && i <= wide(slot[0]) {
-        place(i, wide(slot[i]));
+        place(rt, i, wide(slot[i]))?;
         i += 1;
     }
-    put(b"]");
+    rt.write_all(b"]")
 }
 
 // Writes the place at byte i of a path's slot.
-fn place(i: usize, place: usize) {
+fn place(rt: &impl Print, i: usize, place: usize) -> Result<()> {
     if i == 1 {
-        count(b" [", place as u64);
-        return;
+        return count(rt, b" [", place as u64);
     }
-    count(b",", place as u64);
+    count(rt, b",", place as u64)
 }
 
 fn wide(x: u8) -> usize
@@ -98,11 +97,7 @@ fn wide(x: u8) -> usize
 }
 
 // A number behind its name.
-fn count(name: &[u8], n: u64) {
-    put(name);
-    io::print_decimal(STDOUT_FILENO, n);
-}
-
-fn put(s: &[u8]) {
-    io::write_all(STDOUT_FILENO, s);
+fn count(rt: &impl Print, name: &[u8], n: u64) -> Result<()> {
+    rt.write_all(name)?;
+    rt.print(n)
 }

@@ -1,6 +1,9 @@
 // Reading to the end.
 ghost use Rattle.window.specs.Ends.{Ends};
 
+use intake::fill;
+use std::io::Read;
+
 #[derive(Clone, Copy)]
 pub(crate) enum Input {
     // So many bytes: all that there are, or as many as there is room for.
@@ -9,20 +12,11 @@ pub(crate) enum Input {
 }
 
 // Reads into buf from its start. A read that fails is told from the end of the input, however many bytes came before it.
-pub(crate) fn read_to_end(fd: i32, buf: &mut [u8]) -> Input
+pub(crate) fn read_to_end<R: Read>(reader: &mut R, buf: &mut [u8]) -> Input
     ensures { Ends result buf.new }
 {
-    let mut done = 0;
-    while done < buf.len() {
-        let got = libc::read(fd, &mut buf[done..]);
-        if got < 0 {
-            return Input::Failed;
-        }
-        let more = io::count(got, &buf[done..]);
-        if more == 0 {
-            return Input::Whole(done);
-        }
-        done += more;
+    match fill(reader, buf) {
+        Ok(n) => Input::Whole(n),
+        Err(_) => Input::Failed,
     }
-    Input::Whole(done)
 }
