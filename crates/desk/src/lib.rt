@@ -2,6 +2,7 @@
 // desk_c exports. The crates below answer them; here their answers become plain numbers, and C's flags yes or no. What a file asks is told
 // in plain numbers alone (`savuneco_task`).
 #![tactic(auto)]
+
 mod addresses;
 mod identity;
 mod plain;
