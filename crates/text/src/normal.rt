@@ -13,6 +13,7 @@ pub enum Normalized {
 
 // Writes the normal form of s to the start of out: A to Z lowered, spaces at both ends gone, a run of spaces
 // inside become one. Without room for s itself nothing is written.
+#[tactic(auto, unfolding(crate::specs::Normalize::normalized, crate::specs::Normalize::written))]
 pub fn normalize_string(s: &[u8], out: &mut [u8]) -> Normalized
     ensures answer { form_of result ≡ normalized s.now out.old }
     ensures room { out.new ≡ written s.now out.old }

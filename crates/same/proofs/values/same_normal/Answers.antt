@@ -23,12 +23,12 @@ returns-then-i_next-a c =
 
 pub returns-else-i_next-a : goal.returns-else-i_next-a
 returns-else-i_next-a c =
-    ne_eqb _ _ c.if-i_next-a.false ∙ answers_no _ _ _ _ _ c.loop-i.invariant c.together-n.ensures _ _ (omega (arith, c.past_spaces-i_next.ensures)) c.past_spaces-j_next.ensures c.if-i_next-a.false (⊎_elim (λ t. inl t) (λ t. inr t.1) c.then-i_next-i_end.either)
+    ne_eqb _ _ c.if-i_next-a.false ∙ answers_no _ _ _ _ _ c.loop-i.invariant c.together-n.ensures _ _ (omega (arith, c.past_spaces-i_next.ensures)) c.past_spaces-j_next.ensures c.if-i_next-a.false (grind arith)
 
 pub loop-i-smaller : goal.loop-i-smaller
 loop-i-smaller c =
-    nearer _ _ _ _ _ c.loop-i.invariant c.together-n.ensures _ _ (omega (arith, c.past_spaces-i_next.ensures)) c.past_spaces-j_next.ensures c.if-i_next-i_end.false
+    nearer _ _ _ _ _ c.loop-i.invariant c.together-n.ensures _ _ (omega (arith, c.past_spaces-i_next.ensures)) c.past_spaces-j_next.ensures (search rules)
 
 pub loop-i-preserved : goal.loop-i-preserved
 loop-i-preserved c =
-    next _ _ _ _ _ c.loop-i.invariant c.together-n.ensures _ _ (omega (arith, c.past_spaces-i_next.ensures)) (omega (arith, c.past_spaces-j_next.ensures)) c.if-i_next-i_end.false c.if-j_next-j_end.false
+    next _ _ _ _ _ c.loop-i.invariant c.together-n.ensures _ _ (omega (arith, c.past_spaces-i_next.ensures)) (omega (arith, c.past_spaces-j_next.ensures)) (search rules) (search rules)

@@ -5,15 +5,8 @@ use native.Mathlib.Omega.{arith}
 use Rattle.text.proofs.Form.{start, refused, space, one, two, gap_room, done}
 use Rattle.text.proofs.normal.normalize_string.Goals as goal
 
-pub returns-then-out-s : goal.returns-then-out-s
-returns-then-out-s c =
-    let h =
-    refused _ _ (omega arith)
-    in
-    record { answer = h.0; room = h.1 }
-
 pub loop-i-init : goal.loop-i-init
-loop-i-init c = start _ _ c.if-out-s.false
+loop-i-init c = start _ _ (omega arith)
 
 pub loop-i-preserved-then-b-eq32 : goal.loop-i-preserved-then-b-eq32
 loop-i-preserved-then-b-eq32 c = space _ _ _ _ _ _ _ c.loop-i.invariant (omega arith) c.if-b-eq32.true
