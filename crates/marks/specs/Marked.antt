@@ -2,10 +2,7 @@
 -- "Taken up again"). A reader must believe this file (docs/MAP.md).
 -- Not here: a mark and its path (Marks.antt); the paths after it, and when an outcome settles a search through them (Later.antt); the
 -- cases and the answers (reply/specs/Answer.antt); of a card file (resume/specs/Resume.antt).
-use mathlib.Core.List.{List, []}
-use mathlib.Core.Logic.{◌⊎◌}
-use mathlib.Core.Path.{◌≡◌}
-use Prim.Native.Nat.{ℕ}
+use Rattle.std.specs.Prelude.{List, [], ◌⊎◌, ◌≡◌, ℕ}
 use Rattle.order.specs.Paths.{Places}
 use Rattle.reply.specs.Answer.{answering, Stops, Case, Answered}
 use Rattle.reply.specs.Room.{Holding}

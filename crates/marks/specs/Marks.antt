@@ -1,10 +1,7 @@
 -- A place mark (docs/CARD-FILE.md, "Taken up again"): its path, the mark at a path, and when a mark can be used. A reader must believe this
 -- file (docs/MAP.md).
 -- Not here: which paths come after it (Later.antt), what is answered and where the mark is then (Marked.antt).
-use mathlib.Core.List.{List, map}
-use mathlib.Core.Path.{◌≡◌}
-use Prim.Native.Nat.{ℕ, ◌≤◌}
-use lib.ListN.{take}
+use Rattle.std.specs.Prelude.{List, map, ◌≡◌, ℕ, ◌≤◌, take}
 use Rattle.places.specs.Limits.{bundle_most}
 use Rattle.order.specs.Paths.{Places, Simple}
 use Rattle.reply.specs.Answer.{path_shown}

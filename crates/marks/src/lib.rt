@@ -1,7 +1,8 @@
 // A place mark: the path that a search has taken last, so that it can be taken up again behind it. What must then be answered is in
 // specs/; how it is found is left to the crates above.
-ghost use mathlib.Core.List.{[]};
-ghost use mathlib.Core.Path.{◌≡◌};
+#![tactic(auto)]
+
+ghost use Rattle.std.specs.Prelude.{[], ◌≡◌};
 ghost use Rattle.marks.specs.Marks.{mark_at, marking};
 
 use places::BundlePlace;

@@ -2,10 +2,7 @@
 -- them and their number; then when a search through them is accepted, refused or exhausted, as reply/specs/Settles.antt has it of all
 -- simple paths. A reader must believe this file (docs/MAP.md).
 -- Not here: that through all simple paths it is the same, and that one outcome settles each (proofs/).
-use mathlib.Core.List.{List}
-use mathlib.Core.Path.{◌≡◌}
-use Prim.Native.Nat.{ℕ, suc, ◌≤◌, ◌<◌}
-use lib.ListN.{length}
+use Rattle.std.specs.Prelude.{List, ◌≡◌, ℕ, suc, ◌≤◌, ◌<◌, length}
 use Rattle.order.specs.Listing.{Lists}
 use Rattle.order.specs.Paths.{Places, Simple, Before}
 use Rattle.reply.specs.Settles.{Reach, QualifiesBy, Qualifies, Outcome, accepted, refused, exhausted}

@@ -1,9 +1,7 @@
 -- A search in several calls, each from the mark that the one before has set (docs/CARD-FILE.md, "Taken up again"). A reader need not
 -- believe this file: it is for the theorem that a budget can be cut into calls (proofs/Cut.antt, and over a card file in resume/proofs/).
 -- What one call answers: Marked.antt.
-use mathlib.Core.List.{List, [], ◌∷◌}
-use mathlib.Core.Path.{◌≡◌}
-use Prim.Native.Nat.{ℕ, ◌+◌}
+use Rattle.std.specs.Prelude.{List, [], ◌∷◌, ◌≡◌, ℕ, ◌+◌}
 use Rattle.reply.specs.declared.Answer.{Answer}
 use Rattle.reply.specs.declared.Reply.{Reply}
 use Rattle.reply.specs.declared.Reply.TheVariants as reply
