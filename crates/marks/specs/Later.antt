@@ -1,4 +1,4 @@
--- A search through some of the simple paths, those after a mark (docs/CARD-FILE.md, "Taken up again"): which they are, a path's rank among
+-- A search through some of the simple paths, those after a mark (docs/unfinished/TAKEN-UP-AGAIN.txt): which they are, a path's rank among
 -- them and their number; then when a search through them is accepted, refused or exhausted, as reply/specs/Settles.antt has it of all
 -- simple paths. A reader must believe this file (docs/MAP.md).
 -- Not here: that through all simple paths it is the same, and that one outcome settles each (proofs/).

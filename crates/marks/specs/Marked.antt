@@ -1,5 +1,5 @@
--- What is answered where a search is taken up again at a mark, where the mark is then, and what is left in the room (docs/CARD-FILE.md,
--- "Taken up again"). A reader must believe this file (docs/MAP.md).
+-- What is answered where a search is taken up again at a mark, where the mark is then, and what is left in the room (docs/unfinished/
+-- TAKEN-UP-AGAIN.txt). A reader must believe this file (docs/MAP.md).
 -- Not here: a mark and its path (Marks.antt); the paths after it, and when an outcome settles a search through them (Later.antt); the
 -- cases and the answers (reply/specs/Answer.antt); of a card file (resume/specs/Resume.antt).
 use Rattle.std.specs.Prelude.{List, [], ◌⊎◌, ◌≡◌, ℕ}

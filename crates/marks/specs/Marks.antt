@@ -1,4 +1,4 @@
--- A place mark (docs/CARD-FILE.md, "Taken up again"): its path, the mark at a path, and when a mark can be used. A reader must believe this
+-- A place mark (docs/unfinished/TAKEN-UP-AGAIN.txt): its path, the mark at a path, and when a mark can be used. A reader must believe this
 -- file (docs/MAP.md).
 -- Not here: which paths come after it (Later.antt), what is answered and where the mark is then (Marked.antt).
 use Rattle.std.specs.Prelude.{List, map, ◌≡◌, ℕ, ◌≤◌, take}
