@@ -6,7 +6,7 @@ use std::path::PathBuf;
 use std::process::{Command, Stdio};
 
 pub struct Terminal {
-    /// The program, or an emulator and its arguments with the program last.
+    /// The program, with what starts it before it, if anything does.
     pub words: Vec<String>,
     /// Where a file is put that the program reads as its standard input.
     pub scratch: PathBuf,

@@ -1,5 +1,5 @@
 -- The paths after a mark, in order: all of them after a fresh one, one fewer after each path that is taken (`later_fresh`, `later_drop`),
--- and so the listing without those that are taken (`later_lists`). For Total.antt, Cut.antt and steps/proofs/Marked.antt. Which paths they
+-- and so the listing without those that are taken (`later_lists`). For Total.antt and Cut.antt. Which paths they
 -- are: specs/Later.antt; how many are taken: specs/Began.antt.
 use mathlib.Core.List.Memᴰ
 use mathlib.Core.List.Memᴰ.{head as here}

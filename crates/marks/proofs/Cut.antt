@@ -1,6 +1,6 @@
 -- A budget cut in two: where a call is exhausted, and a second goes on from the mark that it has set, the two come to one call with both
 -- budgets (`taken_cut`, `marked_cut`, in one case `answered_cut`); and so do calls with any budgets (`calls_one`, `calls_marked`,
--- `calls_answered`). Over a card file: resume/proofs/. What one call answers: specs/Marked.antt; several calls: specs/Calls.antt; a search
+-- `calls_answered`). What one call answers: specs/Marked.antt; several calls: specs/Calls.antt; a search
 -- that goes on: Ends.antt.
 use mathlib.Core.List.{List, []}
 use mathlib.Core.Logic.{inl, inr}

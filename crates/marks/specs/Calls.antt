@@ -1,5 +1,5 @@
 -- A search in several calls, each from the mark that the one before has set (docs/unfinished/TAKEN-UP-AGAIN.txt). A reader need not
--- believe this file: it is for the theorem that a budget can be cut into calls (proofs/Cut.antt, and over a card file in resume/proofs/).
+-- believe this file: it is for the theorem that a budget can be cut into calls (proofs/Cut.antt).
 -- What one call answers: Marked.antt.
 use Rattle.std.specs.Prelude.{List, [], ◌∷◌, ◌≡◌, ℕ, ◌+◌}
 use Rattle.reply.specs.declared.Answer.{Answer}

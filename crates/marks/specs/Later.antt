@@ -1,6 +1,6 @@
 -- A search through some of the simple paths, those after a mark (docs/unfinished/TAKEN-UP-AGAIN.txt): which they are, a path's rank among
 -- them and their number; then when a search through them is accepted, refused or exhausted, as reply/specs/Settles.antt has it of all
--- simple paths. A reader must believe this file (docs/MAP.md).
+-- simple paths.
 -- Not here: that through all simple paths it is the same, and that one outcome settles each (proofs/).
 use Rattle.std.specs.Prelude.{List, ◌≡◌, ℕ, suc, ◌≤◌, ◌<◌, length}
 use Rattle.order.specs.Listing.{Lists}

@@ -1,7 +1,7 @@
 -- What is answered where a search is taken up again at a mark, where the mark is then, and what is left in the room (docs/unfinished/
--- TAKEN-UP-AGAIN.txt). A reader must believe this file (docs/MAP.md).
+-- TAKEN-UP-AGAIN.txt).
 -- Not here: a mark and its path (Marks.antt); the paths after it, and when an outcome settles a search through them (Later.antt); the
--- cases and the answers (reply/specs/Answer.antt); of a card file (resume/specs/Resume.antt).
+-- cases and the answers (reply/specs/Answer.antt).
 use Rattle.std.specs.Prelude.{List, [], ◌⊎◌, ◌≡◌, ℕ}
 use Rattle.order.specs.Paths.{Places}
 use Rattle.reply.specs.Answer.{answering, Stops, Case, Answered}

@@ -1,5 +1,4 @@
--- A place mark (docs/unfinished/TAKEN-UP-AGAIN.txt): its path, the mark at a path, and when a mark can be used. A reader must believe this
--- file (docs/MAP.md).
+-- A place mark (docs/unfinished/TAKEN-UP-AGAIN.txt): its path, the mark at a path, and when a mark can be used.
 -- Not here: which paths come after it (Later.antt), what is answered and where the mark is then (Marked.antt).
 use Rattle.std.specs.Prelude.{List, map, ◌≡◌, ℕ, ◌≤◌, take}
 use Rattle.places.specs.Limits.{bundle_most}
