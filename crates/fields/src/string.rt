@@ -24,6 +24,7 @@ pub enum StringAt {
 }
 
 // The string at a place, of least to most bytes. Its length is judged before any of its bytes is needed.
+#[tactic(auto, unfolding(crate::specs::Spans::span_p))]
 pub fn string_at(file: &[u8], at: usize, least: usize, most: usize) -> StringAt
     ensures { spanned result ≡ span_p least most file.now at }
 {

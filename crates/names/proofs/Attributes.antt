@@ -1,5 +1,6 @@
--- What the answer of a reader of attributes tells: the attribute that stands there (`attr_read`), or the fault (`attr_stops`). For the
--- callers of `attribute_at`, here and in same; an attribute by its places: specs/Answers.antt, by its value: specs/Names.antt.
+-- What the answer of a reader of attributes tells: the attribute that stands there (`attr_read`, and by its places alone `attr_placed`), or
+-- the fault (`attr_stops`). For the callers of `attribute_at`, here and in same; an attribute by its places: specs/Answers.antt, by its
+-- value: specs/Names.antt.
 use Prim.Native.Nat.{ℕ}
 use mathlib.Core.Path.{◌≡◌, refl, sym, ap, ◌∙◌}
 use mathlib.Core.List.{List}
@@ -36,6 +37,10 @@ module _ (s : List ℕ) (at : ℕ) where
   attr_told : attr_by (spans_p 1 oid_most 0 value_most s at)
   unfolding spans_p
   attr_told = by_oid _ refl
+
+  pub attr_placed : (a : Attribute) (e : ℕ) → spans_p 1 oid_most 0 value_most s at ≡ got a e → attr_p s at ≡ got (attr_of a s) a.value.end
+  unfolding attr_by
+  attr_placed a e h = rw h at attr_told
 
   module _ (r : AttributeAt) (h : attributed r ≡ spans_p 1 oid_most 0 value_most s at) where
     pub attr_read : (a : Attribute) → r ≡ Got a → attr_p s at ≡ got (attr_of a s) a.value.end

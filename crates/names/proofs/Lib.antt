@@ -3,4 +3,5 @@ pub mod Attributes
 pub mod Counted
 pub mod Forward
 pub mod Judged
+pub mod Left
 pub mod Pinned

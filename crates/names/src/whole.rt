@@ -8,6 +8,7 @@ use crate::read::{AttributeAt, attribute_at, name_at, rdn_at};
 use fields::{Fault, Past};
 
 // An attribute that fills its bytes.
+#[tactic(auto, using(crate::proofs::Left::attr_left))]
 pub fn whole_attribute(s: &[u8]) -> Past
     ensures { passed result ≡ passing (whole attr_p s.now) }
 {

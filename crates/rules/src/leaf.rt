@@ -9,6 +9,7 @@ use lists::{Run, dns_name_at, usage_at};
 use text::match_lowered;
 
 // Usages: none listed, or server or any among them.
+#[tactic(auto, unfolding(crate::specs::Records::for_servers_at))]
 pub fn for_servers(file: &[u8], usages: Run) -> bool
     ensures { result ≡ for_servers_at file.now usages }
 {
@@ -55,6 +56,7 @@ fn serving(usage: usize) -> bool
 }
 
 // If a host is asked, some DNS name matches it, both lowered.
+#[tactic(auto, unfolding(crate::specs::Records::for_host_at))]
 pub fn for_host(file: &[u8], host: &[u8], dns: Run) -> bool
     ensures { result ≡ for_host_at file.now host.now dns }
 {

@@ -10,6 +10,7 @@ pub mod Pinned
 pub mod Rests
 pub mod Rows
 pub mod Spans
+pub mod Single
 pub mod Standing
 pub mod Upstream
 pub mod Walks

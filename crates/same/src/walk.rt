@@ -77,6 +77,7 @@ fn rdns_walk(s: &[u8], at: usize, t: &[u8], bt: usize, n: usize, normalise: bool
 }
 
 // The RDNs at two places: as many attributes, and each of the first has a match in the second. Most have one, which needs no search.
+#[tactic(auto, using(crate::proofs::Single::one_walked))]
 pub(crate) fn rdn_walk(s: &[u8], at: usize, t: &[u8], bt: usize, normalise: bool) -> Walk
     ensures { result ≡ walk (same_rdn normalise) (rdn_p s.now at) (rdn_p t.now bt) }
 {

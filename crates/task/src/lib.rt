@@ -152,6 +152,7 @@ fn times_at(file: &[u8], at: usize) -> TimesAt
 }
 
 // A purpose is a bad value above the server's, judged when it is read.
+#[tactic(auto, unfolding(crate::specs::Task::purpose_p))]
 fn purpose_at(file: &[u8], at: usize) -> Past
     ensures { passed result ≡ passing (purpose_p file.now at) }
 {

@@ -2,18 +2,13 @@
 use native.Mathlib.Omega.{arith}
 use mathlib.Core.Path.{sym}
 use Rattle.fields.proofs.Counts.{count_read}
-use Rattle.fields.proofs.Strings.{span_stops, span_cut, span_got}
+use Rattle.fields.proofs.Strings.{span_stops, span_got}
 use Rattle.fields.proofs.string.string_at.Goals as goal
 
 pub overflow_sub-file : goal.overflow_sub-file
 overflow_sub-file c =
     let read = count_read _ _ _ _ _ _ (sym c.in-Got.ensures) in
     omega arith
-
-pub returns-then-file-next : goal.returns-then-file-next
-returns-then-file-next c =
-    let read = count_read _ _ _ _ _ _ (sym c.in-Got.ensures) in
-    sym (span_cut _ _ _ _ _ _ (sym c.in-Got.ensures) (omega arith))
 
 pub overflow_add-result : goal.overflow_add-result
 overflow_add-result c =

@@ -1,7 +1,6 @@
 -- `same_normal` meets its contract. The loop's invariant is `Abreast`: the forms are the same where what is left of them is. The measure is
 -- what is left of the first value.
 use mathlib.Core.Path.{◌∙◌}
-use mathlib.Core.Logic.{inl, inr, ⊎_elim}
 use native.Mathlib.Omega.{arith}
 use borrow.Author.Tests.{ne_eqb}
 use Rattle.same.proofs.Abreast.{begins, first-within, second_within, answers_second, answers_no, next, nearer}

@@ -6,8 +6,7 @@ use Rattle.names.specs.Names.{attr_p, rdn_p}
 use Rattle.names.specs.Answers.{rdn_begun}
 use Rattle.same.specs.Same.{same_rdn}
 use Rattle.same.specs.Matching.{matched}
-use Rattle.same.proofs.Members.{one_each}
-use Rattle.same.proofs.Walks.{counted_passes, counted_fails, counted_same, no_count_left, no_count_right}
+use Rattle.same.proofs.Walks.{counted_passes, counted_fails, no_count_left, no_count_right}
 use Rattle.same.proofs.walk.rdn_walk.Goals as goal
 
 pub returns-in_default : goal.returns-in_default
@@ -25,16 +24,6 @@ returns-then-a-b c =
     (sym c.rdn_begins.ensures ∙ ap rdn_begun c.in-Got.is)
     (sym c.rdn_begins-2.ensures ∙ ap rdn_begun c.in-Got-rdn_begins.is)
     (ne_eqb _ _ c.if-a-b.true))
-
-pub returns-then-a-eq1 : goal.returns-then-a-eq1
-unfolding rdn_p same_rdn
-returns-then-a-eq1 c =
-    c.attr_walk.ensures
-    ∙ one_each _ _ _ _ _ _ c.if-a-eq1.true
-    ∙ sym (counted_same (matched _) attr_p _ _ _ _ _ _ _ _ _ _
-    (sym c.rdn_begins.ensures ∙ ap rdn_begun c.in-Got.is)
-    (sym c.rdn_begins-2.ensures ∙ ap rdn_begun c.in-Got-rdn_begins.is)
-    c.if-a-b.false)
 
 pub returns : goal.returns
 unfolding rdn_p same_rdn
