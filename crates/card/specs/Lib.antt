@@ -1,4 +1,3 @@
 pub mod Content
 pub mod Card
 pub mod Parts
-pub mod Answers

@@ -3,21 +3,19 @@
 // believed, is left to the crates above.
 #![tactic(auto)]
 
-ghost use Rattle.std.specs.Prelude.{◌≡◌, cond, leb, ltb, length};
-ghost use Rattle.fields.specs.Fields.{got, stop, after};
-ghost use Rattle.fields.specs.Answers.{passed, passing};
-ghost use Rattle.card.specs.Card.{file_p, fresh_card};
-ghost use Rattle.card.specs.Content.{file_most, edition_p};
-ghost use Rattle.card.specs.Answers.{read_as, answer};
+ghost use Rattle.std.specs.Prelude.{◌≡◌};
+ghost use Rattle.fields.specs.Answers.{read, passed, passing, numbered, handed};
+ghost use Rattle.card.specs.Card.{card_p, file_p};
+ghost use Rattle.card.specs.Content.{edition_p};
 
 pub use certificates::{Bundle, Roots};
-use certificates::{bundle_after, roots_after};
-use fields::{CountAt, Fault, Past, byte_at};
+use certificates::certificates_at;
+use fields::{Fault, Reading, byte_at};
 pub use places::{BundlePlace, RootPlace};
-use task::task_after;
+use task::task_at;
 pub use task::{Host, Task};
 pub use verdicts::Verdicts;
-use verdicts::verdicts_after;
+use verdicts::verdicts_at;
 
 // A card file that was read.
 #[derive(Clone, Copy)]
@@ -32,110 +30,47 @@ impl Card {
     pub const MOST: usize = 65535;
 
     pub const EDITION: usize = 1;
-
-    // The card of a file that can't be read: nothing but zeros.
-    pub fn new() -> Card
-        ensures { result ≡ fresh_card }
-    {
-        Card {
-            roots: Roots::new(),
-            bundle: Bundle::new(),
-            verdicts: Verdicts::new(),
-            task: Task::new(),
-        }
-    }
 }
 
-// How reading ended.
-#[derive(Clone, Copy)]
-pub enum Ended {
-    Read,
-    Stop(Fault),
-}
-
-// What reading a file came to; with a fault the card is nothing but zeros. How it ended stands last, so that the card is copied whole and
-// aligned.
-#[derive(Clone, Copy)]
-pub struct Reading {
-    pub card: Card,
-    pub ended: Ended,
-}
-
-// A file's card, or the first fault from left to right, and then nothing of what was read before it. Each arm returns, so that the card is
-// not copied out of the match.
-pub fn read(file: &[u8]) -> Reading
-    ensures { read_as result ≡ answer (file_p file.now) }
-{
-    let begun = edition_past(file);
-    let roots_read = roots_after(file, begun);
-    let after_roots = roots_read.past;
-    let roots = roots_read.roots;
-    let bundle_read = bundle_after(file, after_roots);
-    let after_bundle = bundle_read.past;
-    let bundle = bundle_read.bundle;
-    let verdicts_read = verdicts_after(file, after_bundle, roots.count, bundle.count);
-    let after_verdicts = verdicts_read.past;
-    let verdicts = verdicts_read.verdicts;
-    let task_read = task_after(file, after_verdicts);
-    let after_task = task_read.past;
-    let task = task_read.task;
-    match end_after(file, after_task) {
-        Past::Got(_) => {
-            return Reading {
-                card: Card {
-                    roots,
-                    bundle,
-                    verdicts,
-                    task,
-                },
-                ended: Ended::Read,
-            };
-        }
-        Past::Stop(fault) => {
-            return Reading {
-                card: Card::new(),
-                ended: Ended::Stop(fault),
-            };
-        }
-    }
-}
-
-// The place past the edition, in a file that is not too long.
-fn edition_past(file: &[u8]) -> Past
-    ensures { passed result ≡ passing (cond (leb (length file.now) file_most) (edition_p file.now 0) (stop 5)) }
+// A file's card, or the first fault from left to right, and then nothing of what was read before it.
+pub fn read(file: &[u8]) -> Result<Card, Fault>
+    ensures { numbered result ≡ handed (file_p file.now) }
 {
     if Card::MOST < file.len() {
-        return Past::Stop(Fault::TooLong);
+        return Err(Fault::TooLong);
     }
-    match byte_at(file, 0) {
-        CountAt::Got {
-            count: edition,
-            next,
-        } => {
-            if edition == Card::EDITION {
-                return Past::Got(next);
-            }
-            return Past::Stop(Fault::UnknownEdition);
-        }
-        CountAt::Stop(fault) => {
-            return Past::Stop(fault);
-        }
+    let (card, end) = card_at(file, 0)?;
+    if end < file.len() {
+        return Err(Fault::LeftOver);
     }
+    Ok(card)
 }
 
-// The file's end, where nothing is left over.
-fn end_after(file: &[u8], past: Past) -> Past
-    ensures { passed result ≡ after (passed past) (λ _ e. cond (ltb e (length file.now)) (stop 9) (got tt e)) }
+// The sections at a place, in their order.
+fn card_at(file: &[u8], at: usize) -> Reading<Card>
+    ensures { read result ≡ card_p file.now at }
 {
-    match past {
-        Past::Got(at) => {
-            if at < file.len() {
-                return Past::Stop(Fault::LeftOver);
-            }
-            return Past::Got(at);
-        }
-        Past::Stop(fault) => {
-            return Past::Stop(fault);
-        }
+    let at = edition_past(file, at)?;
+    let (roots, at) = certificates_at(file, at)?;
+    let (bundle, at) = certificates_at(file, at)?;
+    let (verdicts, at) = verdicts_at(file, at, roots.count, bundle.count)?;
+    let (task, next) = task_at(file, at)?;
+    let card = Card {
+        roots,
+        bundle,
+        verdicts,
+        task,
+    };
+    Ok((card, next))
+}
+
+// The place past the edition.
+fn edition_past(file: &[u8], at: usize) -> Result<usize, Fault>
+    ensures { passed result ≡ passing (edition_p file.now at) }
+{
+    let (edition, next) = byte_at(file, at)?;
+    if edition == Card::EDITION {
+        return Ok(next);
     }
+    Err(Fault::UnknownEdition)
 }

@@ -8,34 +8,26 @@ use Rattle.fields.specs.Fields.{Parsed, got, after, counted_p}
 use Rattle.record.specs.Record.{record_p}
 use Rattle.record.specs.Fresh.{fresh}
 use Rattle.record.specs.declared.Record.{Record}
-use Rattle.certificates.specs.declared.roots.Roots.{Roots}
-use Rattle.certificates.specs.declared.bundle.Bundle.{Bundle}
+use Rattle.certificates.specs.declared.certificates.Certificates.{Certificates}
 
 -- records in front, and the record of nothing but zeros at the places past them
 unfoldable pub filled : ℕ → List Record → List Record
 filled most records = records ++ replicate (most - length records) fresh
 
-abbrev pub filled_roots : Parsed (List Record) → Parsed Roots
-filled_roots x = after x (λ l e. got (record { count = length l; records = filled roots_most l }) e)
+abbrev pub filled_certificates : (most : ℕ) → Parsed (List Record) → Parsed (Certificates most)
+filled_certificates most x = after x (λ l e. got (record { count = length l; records = filled most l }) e)
 
-abbrev pub filled_bundle : Parsed (List Record) → Parsed Bundle
-filled_bundle x = after x (λ l e. got (record { count = length l; records = filled bundle_most l }) e)
+-- a count byte of no more than a limit, then records
+unfoldable pub certificates_p : (most : ℕ) → List ℕ → ℕ → Parsed (Certificates most)
+certificates_p most s at = filled_certificates most (counted_p 0 most record_p s at)
 
--- a count byte of no more than the roots' limit, then records
-unfoldable pub roots_p : List ℕ → ℕ → Parsed Roots
-roots_p s at = filled_roots (counted_p 0 roots_most record_p s at)
+-- the roots, within their limit
+abbrev pub roots_p : List ℕ → ℕ → Parsed (Certificates roots_most)
+roots_p = certificates_p roots_most
 
--- a count byte of no more than the bundle's limit, then records
-unfoldable pub bundle_p : List ℕ → ℕ → Parsed Bundle
-bundle_p s at = filled_bundle (counted_p 0 bundle_most record_p s at)
-
--- ---- what stands where nothing was read
-
-abbrev pub fresh-roots : Roots
-fresh-roots = record { count = 0; records = replicate roots_most fresh }
-
-abbrev pub fresh-bundle : Bundle
-fresh-bundle = record { count = 0; records = replicate bundle_most fresh }
+-- the bundle, within its limit
+abbrev pub bundle_p : List ℕ → ℕ → Parsed (Certificates bundle_most)
+bundle_p = certificates_p bundle_most
 
 -- ---- by place
 

@@ -1,3 +1,2 @@
 pub mod Flags
 pub mod Extensions
-pub mod Answers

@@ -1,18 +1,10 @@
--- What each case of an answer stands for: the paper's number of a fault, the values of what was read, and a value held beside the place
--- past it. What a reader must find: Fields.antt and Spans.antt; that no two answers say the same: proofs/Pinned.antt.
-use Rattle.std.specs.Prelude.{ℕ, ◌≡◌}
+-- What an answer stands for: the paper's number of a fault, and what was read with the place past it. What a reader must find: Fields.antt and Spans.antt; that no two answers say the same: proofs/Pinned.antt.
+use Rattle.std.specs.Prelude.{ℕ, Result, Ok, Err}
 use Rattle.fields.specs.Fields.{Parsed, got, stop}
 use Rattle.fields.specs.declared.fault.Fault.{Fault}
 use Rattle.fields.specs.declared.fault.Fault.TheVariants.{UnknownEdition, TooLong, CutShort, BadCount, BadValue, LeftOver}
-use Rattle.fields.specs.declared.count.CountAt.{CountAt}
-use Rattle.fields.specs.declared.count.CountAt.TheVariants as count
+use Rattle.fields.specs.declared.run.Run.{Run}
 use Rattle.fields.specs.declared.string.Span.{Span}
-use Rattle.fields.specs.declared.string.StringAt.{StringAt}
-use Rattle.fields.specs.declared.string.StringAt.TheVariants as string
-use Rattle.fields.specs.declared.number.NumberAt.{NumberAt}
-use Rattle.fields.specs.declared.number.NumberAt.TheVariants as big
-use Rattle.fields.specs.declared.Past.{Past}
-use Rattle.fields.specs.declared.Past.TheVariants as past
 
 -- the numbers of the table of replies
 abbrev pub number : Fault → ℕ
@@ -23,33 +15,35 @@ number BadCount = 7
 number BadValue = 8
 number LeftOver = 9
 
-abbrev pub counted : CountAt → Parsed ℕ
-counted (count.Got n e) = got n e
-counted (count.Stop f) = stop (number f)
+-- a value and the place past it
+abbrev pub read : {A : Type 0} → Result (A × ℕ) Fault → Parsed A
+read (Ok (a, e)) = got a e
+read (Err f) = stop (number f)
 
-abbrev pub spanned : StringAt → Parsed Span
-spanned (string.Got p) = got p p.end
-spanned (string.Stop f) = stop (number f)
+-- a string by its span, which ends where the string does
+abbrev pub spanned : Result Span Fault → Parsed Span
+spanned (Ok p) = got p p.end
+spanned (Err f) = stop (number f)
 
-abbrev pub numbered : NumberAt → Parsed ℕ
-numbered (big.Got v e) = got v e
-numbered (big.Stop f) = stop (number f)
+-- a count of things, and the place of the first
+abbrev pub begun : Result Run Fault → Parsed ℕ
+begun (Ok r) = got r.count r.first
+begun (Err f) = stop (number f)
 
 -- the place past a thing, whatever the thing is
 abbrev pub passing : {A : Type 0} → Parsed A → Parsed (Unit {0})
 passing (got a e) = got tt e
 passing (stop r) = stop r
 
-abbrev pub passed : Past → Parsed (Unit {0})
-passed (past.Got e) = got tt e
-passed (past.Stop f) = stop (number f)
+abbrev pub passed : Result ℕ Fault → Parsed (Unit {0})
+passed (Ok e) = got tt e
+passed (Err f) = stop (number f)
 
--- a value beside the place past it: with a fault the value says nothing
-unfoldable pub held : {A : Type 0} → Past → A → Parsed A
-held (past.Got e) a = got a e
-held (past.Stop f) a = stop (number f)
+-- what is left of a reading where the place past the thing is not told: the thing, or the number of the fault
+abbrev pub handed : {A : Type 0} → Parsed A → Result A ℕ
+handed (got a e) = Ok a
+handed (stop r) = Err r
 
--- with a fault, the value of nothing
-abbrev pub Emptied : {A : Type 0} → Past → A → A → Type 0
-Emptied (past.Got e) a none = Unit {0}
-Emptied (past.Stop f) a none = a ≡ none
+abbrev pub numbered : {A : Type 0} → Result A Fault → Result A ℕ
+numbered (Ok a) = Ok a
+numbered (Err f) = Err (number f)

@@ -1,3 +1,4 @@
 pub mod Fields
 pub mod Spans
+pub mod Runs
 pub mod Answers

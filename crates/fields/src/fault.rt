@@ -1,10 +1,10 @@
 // Why bytes can't be read: the reader's rows in the table of replies (docs/CARD-FILE.md, "Replies").
-ghost use Rattle.std.specs.Prelude.{◌≡◌};
 ghost use Rattle.fields.specs.Answers.{number};
 
-#[derive(Clone, Copy)]
+// Each has the number of its row.
+#[derive(Clone, Copy, Debug, PartialEq, Eq)]
 pub enum Fault {
-    UnknownEdition,
+    UnknownEdition = 4,
     TooLong,
     CutShort,
     BadCount,
@@ -12,18 +12,12 @@ pub enum Fault {
     LeftOver,
 }
 
-impl Fault {
-    // The number of the fault's row.
-    pub fn number(self) -> u8
-        ensures { result ≡ number self }
-    {
-        match self {
-            Fault::UnknownEdition => 4,
-            Fault::TooLong => 5,
-            Fault::CutShort => 6,
-            Fault::BadCount => 7,
-            Fault::BadValue => 8,
-            Fault::LeftOver => 9,
-        }
+impl From<Fault> for u8 {
+    ghost use Rattle.std.specs.Prelude.{◌≡◌};
+
+    ghost from_gives = { λ fault row. row ≡ number fault };
+
+    fn from(fault: Fault) -> u8 {
+        fault as u8
     }
 }

@@ -1,4 +1,4 @@
-// The pieces that every part of a card file is made of: a count byte, a string, a big-endian number.
+// The pieces that every part of a card file is made of: a count byte, a string, a big-endian number, so many of a thing in a row.
 // A reader `X_at(file, at)` answers what stands at a place and the place past it, or why it can't be read.
 // Which pieces make up a record or a name is left to the crates above.
 #![tactic(auto)]
@@ -6,16 +6,16 @@
 mod count;
 mod fault;
 mod number;
+mod run;
 mod string;
+mod thing;
 
-pub use count::{CountAt, byte_at, count_at};
+pub use count::{byte_at, count_at};
 pub use fault::Fault;
-pub use number::{NumberAt, u16_at, u64_at};
-pub use string::{Span, StringAt, part, string_at};
+pub use number::{u16_at, u64_at};
+pub use run::{Run, list_at, run_at};
+pub use string::{Span, part, string_at};
+pub use thing::{Thing, whole};
 
-// The place past a thing that was read, or why it can't be read.
-#[derive(Clone, Copy)]
-pub enum Past {
-    Got(usize),
-    Stop(Fault),
-}
+// What stands at a place and the place past it, or why it can't be read.
+pub type Reading<T> = Result<(T, usize), Fault>;

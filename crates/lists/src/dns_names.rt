@@ -1,59 +1,46 @@
 // A list of DNS names: a count, then a string for each.
-ghost use Rattle.std.specs.Prelude.{◌≡◌};
-ghost use Rattle.fields.specs.Fields.{many};
-ghost use Rattle.fields.specs.Answers.{passed, passing, spanned};
+ghost use Rattle.std.specs.Prelude.{◌≡◌, ℕ, List};
+ghost use Rattle.fields.specs.Answers.{read, spanned};
 ghost use Rattle.lists.specs.Lists.{dns_name_p};
 ghost use Rattle.lists.specs.Runs.{dns_span_p, dns_names_p};
-ghost use Rattle.lists.specs.Answers.{listed};
 
-use crate::{Run, RunAt};
-use fields::{CountAt, Fault, Past, StringAt, count_at, string_at};
+use fields::{Fault, Reading, Run, Span, Thing, list_at, string_at};
 
-// The DNS names at a place.
-pub fn dns_names_at(file: &[u8], at: usize) -> RunAt
-    ensures { listed result ≡ dns_names_p file.now at }
-{
-    match count_at(file, at, Run::DNS_NAMES_LEAST, Run::DNS_NAMES_MOST) {
-        CountAt::Got { count, next: first } => match dns_names_past(file, first, count) {
-            Past::Got(next) => {
-                return RunAt::Got {
-                    run: Run { count, first },
-                    next,
-                };
-            }
-            Past::Stop(fault) => {
-                return RunAt::Stop(fault);
-            }
-        },
-        CountAt::Stop(fault) => {
-            return RunAt::Stop(fault);
-        }
+#[derive(Clone, Copy)]
+pub struct DnsName {}
+
+impl DnsName {
+    // Of its bytes.
+    pub const LEAST: usize = 1;
+
+    pub const MOST: usize = 253;
+
+    // Of the names in a list.
+    pub const FEWEST: usize = 0;
+
+    pub const MANY: usize = 32;
+}
+
+impl Thing for DnsName {
+    ghost Value = { List ℕ };
+
+    ghost thing_p = { dns_name_p };
+
+    fn past(file: &[u8], at: usize) -> Result<usize, Fault> {
+        Ok(dns_name_at(file, at)?.end)
     }
 }
 
-// The place past n DNS names.
-fn dns_names_past(file: &[u8], first: usize, n: usize) -> Past
-    ensures { passed result ≡ passing (many dns_name_p n file.now first) }
+// The DNS names at a place.
+pub fn dns_names_at(file: &[u8], at: usize) -> Reading<Run>
+    ensures { read result ≡ dns_names_p file.now at }
 {
-    let mut at = first;
-    let mut left = n;
-    while 0 < left {
-        match dns_name_at(file, at) {
-            StringAt::Got(name) => {
-                at = name.end;
-                left -= 1;
-            }
-            StringAt::Stop(fault) => {
-                return Past::Stop(fault);
-            }
-        }
-    }
-    Past::Got(at)
+    list_at::<DnsName>(file, at, DnsName::FEWEST, DnsName::MANY)
 }
 
 // Where the bytes of the DNS name at a place stand.
-pub fn dns_name_at(file: &[u8], at: usize) -> StringAt
+pub fn dns_name_at(file: &[u8], at: usize) -> Result<Span, Fault>
     ensures { spanned result ≡ dns_span_p file.now at }
 {
-    string_at(file, at, Run::DNS_NAME_LEAST, Run::DNS_NAME_MOST)
+    string_at(file, at, DnsName::LEAST, DnsName::MOST)
 }

@@ -2,11 +2,10 @@
 // When two of them are the same, and which names a certificate has, is left to the crates above.
 #![tactic(auto)]
 
-mod read;
-mod whole;
+mod attribute;
+mod name;
+mod rdn;
 
-pub use read::{
-    Attribute, AttributeAt, Name, NameAt, Rdn, RdnAt, attribute_at, name_at, name_begins, rdn_at,
-    rdn_begins,
-};
-pub use whole::{whole_attribute, whole_name, whole_rdn};
+pub use attribute::{Attribute, attribute_at};
+pub use name::{Name, name_begins};
+pub use rdn::{Rdn, rdn_begins};

@@ -1,54 +1,42 @@
 -- What a file's question is, and what it asks of those who answer it: of a card, of a file (the contract of `pose`), and its places and
 -- roots. What a content asks, which is what a reader must believe: Asked.antt; that the question asks the same: `put_asks` of
 -- proofs/Asked.antt. What is answered: reply/specs/Answer.antt.
-use Rattle.std.specs.Prelude.{List, ℕ, get_or}
+use Rattle.std.specs.Prelude.{List, ℕ, get_or, Option, Some, None, Result, Ok, Err}
 use Rattle.places.specs.Limits.{bundle_most, roots_most}
 use Rattle.fields.specs.Fields.{Parsed, got, stop}
 use Rattle.certificates.specs.Certificates.{size_of}
-use Rattle.card.specs.Answers.{number_of}
 use Rattle.card.specs.declared.Card.{Card}
 use Rattle.order.specs.Paths.{Places}
 use Rattle.policy.specs.Judging.{qualifies_by}
-use Rattle.policy.specs.Sound.{judged_of, fresh_judged}
+use Rattle.policy.specs.Sound.{judged_of}
 use Rattle.policy.specs.declared.judged.Judged.{Judged}
 use Rattle.reply.specs.Settles.{Reach}
 use Rattle.rows.specs.Rows.{has}
 use Rattle.rules.specs.Rules.{at}
 use Rattle.rules.specs.declared.rules.Time.{Time}
 use Rattle.question.specs.declared.Question.{Question}
-use Rattle.question.specs.declared.When.{When}
-use Rattle.question.specs.declared.When.TheVariants as when
-use Rattle.question.specs.declared.Posed.{Posed}
 
 -- ---- of a card
 
 -- the time at which a card is judged that says `now`
-abbrev pub time_for : When → ℕ → Time
-time_for when.Own now = at now
-time_for (when.At time) now = time
+abbrev pub time_for : Option Time → ℕ → Time
+time_for None now = at now
+time_for (Some time) now = time
 
-unfoldable pub question_of : List ℕ → When → Card → Question
-question_of s w c =
+unfoldable pub question_of : List ℕ → Option Time → Card → Question
+question_of s t c =
     record {
       size = size_of bundle_most c.bundle.count;
-      judged = judged_of s (time_for w c.task.now) c;
+      judged = judged_of s (time_for t c.task.now) c;
       budget = c.task.budget;
     }
 
--- what stands where no card was read
-abbrev pub fresh_question : Question
-fresh_question = record { size = 0; judged = fresh_judged; budget = 0 }
-
 -- ---- of a file
 
--- the fault's number, 0 for a file that was read, and the question
-abbrev pub posed_as : Posed → ℕ × Question
-posed_as p = (number_of p.ended, p.question)
-
 -- what must be told of a file where this was read
-abbrev pub posed : List ℕ → When → Parsed Card → ℕ × Question
-posed s w (got c e) = (0, question_of s w c)
-posed s w (stop r) = (r, fresh_question)
+abbrev pub posed : List ℕ → Option Time → Parsed Card → Result Question ℕ
+posed s t (got c e) = Ok (question_of s t c)
+posed s t (stop r) = Err r
 
 -- ---- what is asked
 

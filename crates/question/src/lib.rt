@@ -3,10 +3,12 @@
 #![tactic(auto)]
 
 ghost use Rattle.std.specs.Prelude.{◌≡◌};
+ghost use Rattle.fields.specs.Answers.{numbered};
 ghost use Rattle.card.specs.Card.{file_p};
-ghost use Rattle.question.specs.Question.{time_for, question_of, fresh_question, posed_as, posed};
+ghost use Rattle.question.specs.Question.{question_of, posed};
 
-use card::{Card, Ended, read};
+use card::{Card, read};
+use fields::Fault;
 use policy::{Judged, judge};
 use rules::Time;
 
@@ -18,71 +20,22 @@ pub struct Question {
     pub size: u8,
 }
 
-impl Question {
-    // The question where no card was read.
-    pub fn new() -> Question
-        ensures { result ≡ fresh_question }
-    {
-        Question {
-            judged: Judged::new(),
-            budget: 0,
-            size: 0,
-        }
-    }
-}
-
-// When a card's certificates are judged: at the time that the card says, or at another.
-#[derive(Clone, Copy)]
-pub enum When {
-    Own,
-    At(Time),
-}
-
-// A file's question; where the file can't be read, why, and a question of nothing.
-#[derive(Clone, Copy)]
-pub struct Posed {
-    pub question: Question,
-    pub ended: Ended,
-}
-
-// The question of a file. Where reading fails, nothing is compared or judged.
-pub fn pose(file: &[u8], when: When) -> Posed
-    ensures { posed_as result ≡ posed file.now when (file_p file.now) }
+// The question of a file, or why it can't be read, and then nothing is compared or judged. Its certificates are judged at a time, or else
+// at the time that the file says.
+pub fn pose(file: &[u8], time: Option<Time>) -> Result<Question, Fault>
+    ensures { numbered result ≡ posed file.now time (file_p file.now) }
 {
-    let reading = read(file);
-    let ended = reading.ended;
-    match ended {
-        Ended::Read => {
-            return Posed {
-                question: put(file, when, reading.card),
-                ended: Ended::Read,
-            };
-        }
-        Ended::Stop(fault) => {
-            return Posed {
-                question: Question::new(),
-                ended: Ended::Stop(fault),
-            };
-        }
-    }
+    Ok(put(file, time, read(file)?))
 }
 
 // The question of a card, whose certificates stand in the file.
-fn put(file: &[u8], when: When, card: Card) -> Question
-    ensures { result ≡ question_of file.now when card }
+fn put(file: &[u8], time: Option<Time>, card: Card) -> Question
+    ensures { result ≡ question_of file.now time card }
 {
+    let time = time.unwrap_or(Time::at(card.task.now));
     Question {
-        judged: judge(file, time_for(when, card.task.now), card),
+        judged: judge(file, time, card),
         budget: card.task.budget,
         size: card.bundle.size(),
-    }
-}
-
-fn time_for(when: When, now: u64) -> Time
-    ensures { result ≡ time_for when now }
-{
-    match when {
-        When::Own => Time::at(now),
-        When::At(time) => time,
     }
 }

@@ -1,7 +1,7 @@
 -- What stands where nothing was read: of a record, and of each group of its parts. Of lists of records:
 -- certificates/specs/Certificates.antt; of a whole card: `fresh_card` of card/specs/Card.antt.
 use Rattle.fields.specs.Spans.{nowhere}
-use Rattle.lists.specs.declared.Run.{Run}
+use Rattle.fields.specs.declared.run.Run.{Run}
 use Rattle.extensions.specs.declared.KeyIds.{KeyIds}
 use Rattle.extensions.specs.declared.Extensions.{Extensions}
 use Rattle.record.specs.declared.head.Head.{Head}

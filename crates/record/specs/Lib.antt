@@ -2,4 +2,3 @@ pub mod Certificate
 pub mod Record
 pub mod Fresh
 pub mod Parts
-pub mod Answers

@@ -8,20 +8,19 @@ mod parties;
 mod strings;
 
 ghost use Rattle.std.specs.Prelude.{◌≡◌};
+ghost use Rattle.fields.specs.Answers.{read};
 ghost use Rattle.record.specs.Fresh.{fresh};
 ghost use Rattle.record.specs.Record.{placed, record_p};
 ghost use Rattle.record.specs.Parts.{head_of, strings_of, key_ids_of, extensions_of, issuer_span, subject_span};
-ghost use Rattle.record.specs.Answers.{recorded};
 
-use extensions::{Extensions, ExtensionsAt, KeyIds, KeyIdsAt, extensions_at, key_ids_at};
-use fields::{CountAt, Fault, Span};
+use extensions::{Extensions, KeyIds, extensions_at, key_ids_at};
+use fields::{Reading, Run, Span};
 pub use head::Head;
-use head::{HeadAt, flags_past, head_at};
-use lists::Run;
+use head::{flags_past, head_at};
 pub use parties::Names;
-use parties::{NamesAt, names_at};
+use parties::names_at;
 pub use strings::Strings;
-use strings::{StringsAt, strings_at};
+use strings::strings_at;
 
 // A record that was read: where it starts, where its two names start, and where what is behind them starts.
 #[derive(Clone, Copy)]
@@ -73,17 +72,8 @@ impl Record {
         ensures { result ≡ head_of self file.now }
     {
         match head_at(file, self.start as usize) {
-            HeadAt::Got { head, next: _ } => {
-                return head;
-            }
-            HeadAt::Stop(_) => {
-                return Head {
-                    version: 0,
-                    flags: 0,
-                    not_before: 0,
-                    not_after: 0,
-                };
-            }
+            Ok((head, _)) => head,
+            Err(_) => Head::default(),
         }
     }
 
@@ -92,15 +82,8 @@ impl Record {
         ensures { result ≡ (head_of self file.now).flags }
     {
         match flags_past(file, self.start as usize) {
-            CountAt::Got {
-                count: flags,
-                next: _,
-            } => {
-                return flags;
-            }
-            CountAt::Stop(_) => {
-                return 0;
-            }
+            Ok((flags, _)) => flags,
+            Err(_) => 0,
         }
     }
 
@@ -109,16 +92,12 @@ impl Record {
         ensures { result ≡ strings_of self file.now }
     {
         match strings_at(file, self.start as usize + Record::HEAD) {
-            StringsAt::Got { strings, next: _ } => {
-                return strings;
-            }
-            StringsAt::Stop(_) => {
-                return Strings {
-                    serial: Span::NOWHERE,
-                    outer: Span::NOWHERE,
-                    inner: Span::NOWHERE,
-                };
-            }
+            Ok((strings, _)) => strings,
+            Err(_) => Strings {
+                serial: Span::NOWHERE,
+                outer: Span::NOWHERE,
+                inner: Span::NOWHERE,
+            },
         }
     }
 
@@ -147,16 +126,8 @@ impl Record {
         ensures { result ≡ key_ids_of flags self file.now }
     {
         match key_ids_at(file, self.rest as usize, flags) {
-            KeyIdsAt::Got { key_ids, next: _ } => {
-                return key_ids;
-            }
-            KeyIdsAt::Stop(_) => {
-                return KeyIds {
-                    authority: Span::NOWHERE,
-                    authority_serial: Span::NOWHERE,
-                    subject: Span::NOWHERE,
-                };
-            }
+            Ok((key_ids, _)) => key_ids,
+            Err(_) => NO_KEY_IDS,
         }
     }
 
@@ -165,72 +136,32 @@ impl Record {
         ensures { result ≡ extensions_of flags self file.now }
     {
         match extensions_at(file, self.rest as usize, flags) {
-            ExtensionsAt::Got {
-                extensions,
-                next: _,
-            } => {
-                return extensions;
-            }
-            ExtensionsAt::Stop(_) => {
-                let none = Run { count: 0, first: 0 };
-                return Extensions {
-                    key_ids: KeyIds {
-                        authority: Span::NOWHERE,
-                        authority_serial: Span::NOWHERE,
-                        subject: Span::NOWHERE,
-                    },
-                    path_length: 0,
-                    usages: none,
-                    dns_names: none,
-                };
-            }
-        }
-    }
-}
-
-#[derive(Clone, Copy)]
-pub enum RecordAt {
-    Got { record: Record, next: usize },
-    Stop(Fault),
-}
-
-// The record at a place. Each arm returns, so that nothing is copied out of the matches.
-pub fn record_at(file: &[u8], at: usize) -> RecordAt
-    ensures { recorded result ≡ record_p file.now at }
-{
-    match flags_past(file, at) {
-        CountAt::Got {
-            count: flags,
-            next: a,
-        } => match strings_at(file, a) {
-            StringsAt::Got {
-                strings: _,
-                next: b,
-            } => match names_at(file, b) {
-                NamesAt::Got { names, next: c } => match extensions_at(file, c, flags) {
-                    ExtensionsAt::Got {
-                        extensions: _,
-                        next,
-                    } => {
-                        return RecordAt::Got {
-                            record: Record::placed(at, names.issuer, names.subject, c),
-                            next,
-                        };
-                    }
-                    ExtensionsAt::Stop(fault) => {
-                        return RecordAt::Stop(fault);
-                    }
-                },
-                NamesAt::Stop(fault) => {
-                    return RecordAt::Stop(fault);
-                }
+            Ok((extensions, _)) => extensions,
+            Err(_) => Extensions {
+                key_ids: NO_KEY_IDS,
+                path_length: 0,
+                usages: NONE_LISTED,
+                dns_names: NONE_LISTED,
             },
-            StringsAt::Stop(fault) => {
-                return RecordAt::Stop(fault);
-            }
-        },
-        CountAt::Stop(fault) => {
-            return RecordAt::Stop(fault);
         }
     }
+}
+
+const NO_KEY_IDS: KeyIds = KeyIds {
+    authority: Span::NOWHERE,
+    authority_serial: Span::NOWHERE,
+    subject: Span::NOWHERE,
+};
+
+const NONE_LISTED: Run = Run { count: 0, first: 0 };
+
+// The record at a place.
+pub fn record_at(file: &[u8], at: usize) -> Reading<Record>
+    ensures { read result ≡ record_p file.now at }
+{
+    let (flags, strings) = flags_past(file, at)?;
+    let (_, names) = strings_at(file, strings)?;
+    let (names, rest) = names_at(file, names)?;
+    let (_, next) = extensions_at(file, rest, flags)?;
+    Ok((Record::placed(at, names.issuer, names.subject, rest), next))
 }

@@ -1,10 +1,10 @@
 // A record's two names, by their places.
 ghost use Rattle.std.specs.Prelude.{◌≡◌};
+ghost use Rattle.fields.specs.Answers.{read};
 ghost use Rattle.record.specs.Record.{names_p};
-ghost use Rattle.record.specs.Answers.{named};
 
-use fields::{Fault, Past};
-use names::name_at;
+use fields::{Reading, Thing};
+use names::Name;
 
 #[derive(Clone, Copy)]
 pub struct Names {
@@ -12,32 +12,14 @@ pub struct Names {
     pub subject: usize,
 }
 
-#[derive(Clone, Copy)]
-pub(crate) enum NamesAt {
-    Got { names: Names, next: usize },
-    Stop(Fault),
-}
-
-pub(crate) fn names_at(file: &[u8], at: usize) -> NamesAt
-    ensures { named result ≡ names_p file.now at }
+pub(crate) fn names_at(file: &[u8], at: usize) -> Reading<Names>
+    ensures { read result ≡ names_p file.now at }
 {
-    match name_at(file, at) {
-        Past::Got(subject) => match name_at(file, subject) {
-            Past::Got(next) => {
-                return NamesAt::Got {
-                    names: Names {
-                        issuer: at,
-                        subject,
-                    },
-                    next,
-                };
-            }
-            Past::Stop(fault) => {
-                return NamesAt::Stop(fault);
-            }
-        },
-        Past::Stop(fault) => {
-            return NamesAt::Stop(fault);
-        }
-    }
+    let subject = Name::past(file, at)?;
+    let next = Name::past(file, subject)?;
+    let names = Names {
+        issuer: at,
+        subject,
+    };
+    Ok((names, next))
 }

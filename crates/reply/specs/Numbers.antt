@@ -1,9 +1,11 @@
 -- Cases and replies in numbers, as the code and C have them; the search's promise does not use them. What is promised: Answer.antt; that an
 -- answer's two parts are an outcome's `saying` and `shown`: proofs/Says.antt.
-use Rattle.std.specs.Prelude.{ℕ, List, []}
+use Rattle.std.specs.Prelude.{ℕ, List, [], Result, Ok, Err}
 use Rattle.places.specs.declared.BundlePlace.{BundlePlace}
 use Rattle.reply.specs.Settles.{Outcome, accepted, refused, exhausted}
 use Rattle.reply.specs.Answer.{Case, unread, empty, cramped, runs}
+use Rattle.reply.specs.declared.Lack.{Lack}
+use Rattle.reply.specs.declared.Lack.TheVariants as lack
 use Rattle.reply.specs.declared.Reply.{Reply}
 use Rattle.reply.specs.declared.Reply.TheVariants as reply
 
@@ -17,6 +19,15 @@ fault_of (unread r) = r
 fault_of empty = 3
 fault_of cramped = 10
 fault_of (runs x) = 0
+
+-- the same of what a search lacks
+abbrev pub lacking : Lack → ℕ
+lacking lack.Certificates = 3
+lacking lack.Room = 10
+
+abbrev pub lacked : {A : Type 0} → Result A Lack → ℕ
+lacked (Ok x) = 0
+lacked (Err l) = lacking l
 
 -- an outcome's reply, and the path beside it
 abbrev pub saying : Outcome → Reply

@@ -6,7 +6,7 @@ mod path;
 
 ghost use Rattle.std.specs.Prelude.{[], ◌≡◌};
 ghost use Rattle.reply.specs.Answer.{path_shown, case_of};
-ghost use Rattle.reply.specs.Numbers.{fault_of};
+ghost use Rattle.reply.specs.Numbers.{fault_of, lacked};
 ghost use Rattle.reply.specs.Room.{has_room};
 ghost use Rattle.reply.specs.declared.Reply.TheVariants.{Error};
 
@@ -59,25 +59,42 @@ impl Slot {
     pub const MOST: usize = (BundlePlace::MOST - 1) * (BundlePlace::MOST - 2) / 2 + 1;
 }
 
-// The number of what stands in the way of a search over n certificates in a room of so many bytes; 0 where nothing does.
-pub fn fault(n: u8, bytes: usize) -> u8
-    ensures { result ≡ fault_of (case_of n n bytes) }
+// What stands in the way of a search, each with the number of its reply.
+#[derive(Clone, Copy, Debug, PartialEq, Eq)]
+pub enum Lack {
+    Certificates,
+    Room,
+}
+
+impl From<Lack> for u8 {
+    ghost use Rattle.reply.specs.Numbers.{lacking};
+
+    ghost from_gives = { λ lack reply. reply ≡ lacking lack };
+
+    fn from(lack: Lack) -> u8 {
+        match lack {
+            Lack::Certificates => Reply::EMPTY_CHAIN,
+            Lack::Room => Reply::NO_ROOM,
+        }
+    }
+}
+
+// Whether a search over n certificates in a room of so many bytes lacks nothing, or else what.
+pub fn room_for(n: u8, bytes: usize) -> Result<(), Lack>
+    ensures { lacked result ≡ fault_of (case_of n n bytes) }
 {
     if n == 0 {
-        return Reply::EMPTY_CHAIN;
+        return Err(Lack::Certificates);
     }
     if has_room(n, bytes) {
-        return 0;
+        return Ok(());
     }
-    Reply::NO_ROOM
+    Err(Lack::Room)
 }
 
 // Whether so many bytes hold the slots that n certificates need.
 fn has_room(n: u8, bytes: usize) -> bool
     ensures { result ≡ has_room n bytes }
 {
-    if n as usize <= BundlePlace::MOST {
-        return slots(n) as usize <= bytes / Slot::BYTES;
-    }
-    false
+    n as usize <= BundlePlace::MOST && slots(n) as usize <= bytes / Slot::BYTES
 }

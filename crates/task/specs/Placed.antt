@@ -23,11 +23,3 @@ task_p s at =
     after (purpose_p s e) (λ _ f.
     after (span_p 0 host_most s f) (λ host g.
     got (record { now = t.0; budget = t.1; host = record { name = host } }) g)))
-
--- ---- what stands where nothing was read
-
-abbrev pub fresh-host : Host
-fresh-host = record { name = nowhere }
-
-abbrev pub fresh_task : Task
-fresh_task = record { now = 0; budget = 0; host = fresh-host }

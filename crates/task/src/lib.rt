@@ -3,15 +3,11 @@
 #![tactic(auto)]
 
 ghost use Rattle.std.specs.Prelude.{◌≡◌};
-ghost use Rattle.fields.specs.Fields.{stop, after};
-ghost use Rattle.fields.specs.Answers.{number, passed, passing, held, Emptied};
+ghost use Rattle.fields.specs.Answers.{read, passed, passing};
 ghost use Rattle.task.specs.Task.{purpose_p};
-ghost use Rattle.task.specs.Placed.{times_p, task_p, fresh-host, fresh_task};
-ghost use Rattle.task.specs.Answers.{timed};
+ghost use Rattle.task.specs.Placed.{times_p, task_p};
 
-use fields::{
-    CountAt, Fault, NumberAt, Past, Span, StringAt, byte_at, count_at, string_at, u64_at,
-};
+use fields::{Fault, Reading, Span, byte_at, count_at, string_at, u64_at};
 
 // The host that is asked; none where its name has no bytes.
 #[derive(Clone, Copy)]
@@ -23,15 +19,6 @@ impl Host {
     pub const LEAST: usize = 0;
 
     pub const MOST: usize = 253;
-
-    // No host.
-    pub fn new() -> Host
-        ensures { result ≡ fresh-host }
-    {
-        Host {
-            name: Span::NOWHERE,
-        }
-    }
 }
 
 #[derive(Clone, Copy)]
@@ -45,139 +32,41 @@ impl Task {
     pub const COUNT: usize = 1;
 
     pub const SERVER: usize = 0;
-
-    // Nothing asked.
-    pub fn new() -> Task
-        ensures { result ≡ fresh_task }
-    {
-        Task {
-            now: 0,
-            budget: 0,
-            host: Host::new(),
-        }
-    }
 }
 
-// The task and the place past it; with a fault nothing is asked.
-#[derive(Clone, Copy)]
-pub struct TaskRead {
-    pub past: Past,
-    pub task: Task,
-}
-
-#[derive(Clone, Copy)]
-enum TimesAt {
-    Got { now: u64, budget: u64, next: usize },
-    Stop(Fault),
-}
-
-// The task where the verdicts end.
-pub fn task_after(file: &[u8], past: Past) -> TaskRead
-    ensures task_value { held result.past result.task ≡ after (passed past) (λ _ at. task_p file.now at) }
-    ensures emptied { Emptied result.past result.task fresh_task }
+// The task at a place.
+pub fn task_at(file: &[u8], at: usize) -> Reading<Task>
+    ensures { read result ≡ task_p file.now at }
 {
-    match past {
-        Past::Got(at) => {
-            return task_at(file, at);
-        }
-        Past::Stop(fault) => {
-            return no_task(fault);
-        }
-    }
+    let ((now, budget), at) = times_at(file, at)?;
+    let at = purpose_past(file, at)?;
+    let name = string_at(file, at, Host::LEAST, Host::MOST)?;
+    let task = Task {
+        now,
+        budget,
+        host: Host { name },
+    };
+    Ok((task, name.end))
 }
 
-fn task_at(file: &[u8], at: usize) -> TaskRead
-    ensures task_value { held result.past result.task ≡ task_p file.now at }
-    ensures emptied { Emptied result.past result.task fresh_task }
+// The task's count, then now and budget.
+fn times_at(file: &[u8], at: usize) -> Reading<(u64, u64)>
+    ensures { read result ≡ times_p file.now at }
 {
-    match times_at(file, at) {
-        TimesAt::Got {
-            now,
-            budget,
-            next: a,
-        } => match purpose_at(file, a) {
-            Past::Got(b) => match string_at(file, b, Host::LEAST, Host::MOST) {
-                StringAt::Got(name) => {
-                    return TaskRead {
-                        past: Past::Got(name.end),
-                        task: Task {
-                            now,
-                            budget,
-                            host: Host { name },
-                        },
-                    };
-                }
-                StringAt::Stop(fault) => {
-                    return no_task(fault);
-                }
-            },
-            Past::Stop(fault) => {
-                return no_task(fault);
-            }
-        },
-        TimesAt::Stop(fault) => {
-            return no_task(fault);
-        }
-    }
-}
-
-// The task's count, now and budget.
-fn times_at(file: &[u8], at: usize) -> TimesAt
-    ensures { timed result ≡ times_p file.now at }
-{
-    match count_at(file, at, Task::COUNT, Task::COUNT) {
-        CountAt::Got { count: _, next: a } => match u64_at(file, a) {
-            NumberAt::Got {
-                value: now,
-                next: b,
-            } => match u64_at(file, b) {
-                NumberAt::Got {
-                    value: budget,
-                    next,
-                } => {
-                    return TimesAt::Got { now, budget, next };
-                }
-                NumberAt::Stop(fault) => {
-                    return TimesAt::Stop(fault);
-                }
-            },
-            NumberAt::Stop(fault) => {
-                return TimesAt::Stop(fault);
-            }
-        },
-        CountAt::Stop(fault) => {
-            return TimesAt::Stop(fault);
-        }
-    }
+    let (_, at) = count_at(file, at, Task::COUNT, Task::COUNT)?;
+    let (now, at) = u64_at(file, at)?;
+    let (budget, next) = u64_at(file, at)?;
+    Ok(((now, budget), next))
 }
 
 // A purpose is a bad value above the server's, judged when it is read.
 #[tactic(auto, unfolding(crate::specs::Task::purpose_p))]
-fn purpose_at(file: &[u8], at: usize) -> Past
+fn purpose_past(file: &[u8], at: usize) -> Result<usize, Fault>
     ensures { passed result ≡ passing (purpose_p file.now at) }
 {
-    match byte_at(file, at) {
-        CountAt::Got {
-            count: purpose,
-            next,
-        } => {
-            if purpose == Task::SERVER {
-                return Past::Got(next);
-            }
-            return Past::Stop(Fault::BadValue);
-        }
-        CountAt::Stop(fault) => {
-            return Past::Stop(fault);
-        }
+    let (purpose, next) = byte_at(file, at)?;
+    if purpose == Task::SERVER {
+        return Ok(next);
     }
-}
-
-fn no_task(fault: Fault) -> TaskRead
-    ensures task_value { held result.past result.task ≡ stop (number fault) }
-    ensures emptied { Emptied result.past result.task fresh_task }
-{
-    TaskRead {
-        past: Past::Stop(fault),
-        task: Task::new(),
-    }
+    Err(Fault::BadValue)
 }

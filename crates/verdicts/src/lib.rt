@@ -3,13 +3,13 @@
 #![tactic(auto)]
 
 ghost use Rattle.std.specs.Prelude.{◌≡◌, ◌+◌, ◌*◌, ◌≤◌, length};
-ghost use Rattle.fields.specs.Fields.{got, stop, after, many};
-ghost use Rattle.fields.specs.Answers.{number, passed, held, Emptied};
+ghost use Rattle.fields.specs.Fields.{many};
+ghost use Rattle.fields.specs.Answers.{read, passed, passing};
 ghost use Rattle.verdicts.specs.Verdicts.{verdict_p};
-ghost use Rattle.verdicts.specs.Grid.{grid_p, fresh-verdicts, signed_at, root_signed, bundle_signed};
+ghost use Rattle.verdicts.specs.Grid.{grid_p, signed_at, root_signed, bundle_signed};
 ghost use Rattle.verdicts.specs.Parts.{any_above_yes};
 
-use fields::{Fault, NumberAt, Past, u16_at};
+use fields::{Fault, Reading, u16_at};
 use places::{BundlePlace, RootPlace};
 
 // Verdicts on so many roots and so large a bundle, from the first one on.
@@ -22,17 +22,6 @@ pub struct Verdicts {
 
 impl Verdicts {
     pub const YES: usize = 1;
-
-    // No verdicts.
-    pub fn new() -> Verdicts
-        ensures { result ≡ fresh-verdicts }
-    {
-        Verdicts {
-            roots: 0,
-            bundle: 0,
-            first: 0,
-        }
-    }
 
     // How many verdicts a file must have.
     pub fn asked(roots: u8, bundle: u8) -> usize
@@ -88,86 +77,47 @@ fn signed_at(verdicts: Verdicts, file: &[u8], row: usize, column: usize) -> bool
     file[at] as usize == Verdicts::YES
 }
 
-// The verdicts and the place past them; no verdicts with a fault.
-#[derive(Clone, Copy)]
-pub struct VerdictsRead {
-    pub past: Past,
-    pub verdicts: Verdicts,
+// The verdicts on so many roots and so large a bundle.
+pub fn verdicts_at(file: &[u8], at: usize, roots: u8, bundle: u8) -> Reading<Verdicts>
+    ensures { read result ≡ grid_p roots bundle file.now at }
+{
+    let (count, first) = u16_at(file, at)?;
+    let n = Verdicts::asked(roots, bundle);
+    if count != n as u64 {
+        return Err(Fault::BadCount);
+    }
+    let next = verdicts_past(file, first, n)?;
+    let verdicts = Verdicts {
+        roots,
+        bundle,
+        first,
+    };
+    Ok((verdicts, next))
 }
 
-// The verdicts where the bundle ends.
-pub fn verdicts_after(file: &[u8], past: Past, roots: u8, bundle: u8) -> VerdictsRead
-    ensures verdicts_value { held result.past result.verdicts ≡ after (passed past) (λ _ at. grid_p roots bundle file.now at) }
-    ensures emptied { Emptied result.past result.verdicts fresh-verdicts }
+// The place past n verdicts. Where the file ends too early, a bad value among those that are there is still the first fault.
+fn verdicts_past(file: &[u8], first: usize, n: usize) -> Result<usize, Fault>
+    requires { first ≤ length file.now }
+    ensures { passed result ≡ passing (many verdict_p n file.now first) }
 {
-    match past {
-        Past::Got(at) => match u16_at(file, at) {
-            NumberAt::Got { value, next } => {
-                let n = Verdicts::asked(roots, bundle);
-                if value == n as u64 {
-                    let verdicts = Verdicts {
-                        roots,
-                        bundle,
-                        first: next,
-                    };
-                    return verdict_rows(file, verdicts, n);
-                }
-                return no_verdicts(Fault::BadCount);
-            }
-            NumberAt::Stop(fault) => {
-                return no_verdicts(fault);
-            }
-        },
-        Past::Stop(fault) => {
-            return no_verdicts(fault);
+    let there = &file[first..];
+    if n <= there.len() {
+        if any_above_yes(&there[..n]) {
+            return Err(Fault::BadValue);
         }
+        return Ok(first + n);
     }
+    if any_above_yes(there) {
+        return Err(Fault::BadValue);
+    }
+    Err(Fault::CutShort)
 }
 
-// n verdicts from the first on. Where the file ends too early, a bad value among those that are there is still the first fault.
-fn verdict_rows(file: &[u8], verdicts: Verdicts, n: usize) -> VerdictsRead
-    requires { verdicts.first ≤ length file.now }
-    ensures verdicts_value { held result.past result.verdicts ≡ after (many verdict_p n file.now verdicts.first) (λ _ e. got verdicts e) }
-    ensures emptied { Emptied result.past result.verdicts fresh-verdicts }
-{
-    let first = verdicts.first;
-    let left = file.len() - first;
-    let mut there = n;
-    if left < n {
-        there = left;
-    }
-    let end = first + there;
-    if any_above_yes(&file[first..end]) {
-        return no_verdicts(Fault::BadValue);
-    }
-    if there < n {
-        return no_verdicts(Fault::CutShort);
-    }
-    VerdictsRead {
-        past: Past::Got(end),
-        verdicts,
-    }
-}
-
-// Whether a byte is more than a yes. The loop does not stop at one, so that the compiler can judge many bytes at once.
+// Whether a byte is more than a yes. It does not stop at one, so that the compiler can judge many bytes at once.
 fn any_above_yes(bytes: &[u8]) -> bool
     ensures { result ≡ any_above_yes bytes.now }
 {
-    let mut bad = false;
-    let mut i: usize = 0;
-    while i < bytes.len() {
-        bad = bad | (Verdicts::YES < bytes[i] as usize);
-        i += 1;
-    }
-    bad
-}
-
-fn no_verdicts(fault: Fault) -> VerdictsRead
-    ensures verdicts_value { held result.past result.verdicts ≡ stop (number fault) }
-    ensures emptied { Emptied result.past result.verdicts fresh-verdicts }
-{
-    VerdictsRead {
-        past: Past::Stop(fault),
-        verdicts: Verdicts::new(),
-    }
+    bytes
+        .iter()
+        .fold(false, |bad, byte| bad | (Verdicts::YES < *byte as usize))
 }

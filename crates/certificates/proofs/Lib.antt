@@ -1,5 +1,0 @@
-pub mod Nothing
-pub mod Pinned
-pub mod Records
-pub mod Standing
-pub mod Two

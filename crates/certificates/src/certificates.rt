@@ -1,0 +1,66 @@
+// A list of no more than so many certificates.
+ghost use Rattle.std.specs.Prelude.{◌≡◌, replicate};
+ghost use Rattle.fields.specs.Answers.{read};
+ghost use Rattle.record.specs.Fresh.{fresh};
+ghost use Rattle.certificates.specs.Certificates.{certificates_p, record_of, size_of};
+
+use fields::{Reading, count_at};
+use record::{Record, record_at};
+use std::cmp::min;
+
+// The count stands last, so that the records are copied whole and aligned.
+#[derive(Clone, Copy)]
+pub struct Certificates<const MOST: usize> {
+    pub records: [Record; MOST],
+    pub count: u8,
+}
+
+impl<const MOST: usize> Certificates<MOST> {
+    pub const LEAST: usize = 0;
+
+    pub const MOST: usize = MOST;
+
+    // No certificates.
+    pub fn new() -> Self
+        ensures { (result.count ≡ 0) × (result.records ≡ replicate MOST fresh) }
+    {
+        Certificates {
+            records: [Record::new(); MOST],
+            count: 0,
+        }
+    }
+
+    // How many there are: the count, but no more than there is room for.
+    pub fn size(self) -> u8
+        ensures { result ≡ size_of MOST self.entry.count }
+    {
+        min(self.count as usize, MOST) as u8
+    }
+
+    // The record at a place; the one of nothing but zeros where there is no such place.
+    pub(crate) fn record_at(self, place: u8) -> Record
+        ensures { result ≡ record_of self.entry.count self.entry.records place }
+    {
+        if self.count <= place || MOST <= place as usize {
+            return Record::new();
+        }
+        self.records[place as usize]
+    }
+}
+
+// The certificates at a place.
+pub fn certificates_at<const MOST: usize>(file: &[u8], at: usize) -> Reading<Certificates<MOST>>
+    ensures { read result ≡ certificates_p MOST file.now at }
+{
+    let (count, first) = count_at(file, at, 0, MOST)?;
+    let mut records = [Record::new(); MOST];
+    let mut next = first;
+    for i in 0..count {
+        (records[i], next) = record_at(file, next)?;
+    }
+    let certificates = Certificates {
+        records,
+        count: count as u8,
+    };
+    Ok((certificates, next))
+}

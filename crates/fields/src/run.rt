@@ -1,0 +1,61 @@
+// So many of a thing in a row.
+ghost use Rattle.std.specs.Prelude.{◌≡◌, ℕ, Bool};
+ghost use Rattle.fields.specs.Fields.{count_p, many};
+ghost use Rattle.fields.specs.Runs.{run_p, any_of, Tells};
+ghost use Rattle.fields.specs.Answers.{begun, read, passed, passing};
+
+use crate::{Fault, Reading, Thing, count_at};
+
+// How many of a thing there are, and where the first one stands.
+#[derive(Clone, Copy)]
+pub struct Run {
+    pub count: usize,
+    pub first: usize,
+}
+
+impl Run {
+    // The place past the last one.
+    pub fn past<T: Thing>(self, file: &[u8]) -> Result<usize, Fault>
+        ensures { passed result ≡ passing (many T.thing_p self.count file.now self.first) }
+    {
+        let mut at = self.first;
+        for _ in 0..self.count {
+            at = T::past(file, at)?;
+        }
+        Ok(at)
+    }
+
+    // Whether one of them passes a test, from the left as far as they can be read. The test is handed the place of a thing, and tells the
+    // place past it too, so that nothing is read twice.
+    pub fn any<T: Thing, F: Fn(usize) -> Reading<bool>>(self, file: &[u8], test: F) -> bool
+        requires { F.IsAlwaysCallable test }
+        ensures { (passes : T.Value → Bool) → Tells passes (T.thing_p file.now) (F.post test) → result ≡ any_of passes T.thing_p self.count file.now self.first }
+    {
+        let mut at = self.first;
+        for _ in 0..self.count {
+            match test(at) {
+                Ok((true, _)) => return true,
+                Ok((false, next)) => at = next,
+                Err(_) => return false,
+            }
+        }
+        false
+    }
+}
+
+// A count of things, from least to most.
+pub fn run_at(file: &[u8], at: usize, least: usize, most: usize) -> Result<Run, Fault>
+    ensures { begun result ≡ count_p least most file.now at }
+{
+    let (count, first) = count_at(file, at, least, most)?;
+    Ok(Run { count, first })
+}
+
+// A count of things, from least to most, and then the things.
+pub fn list_at<T: Thing>(file: &[u8], at: usize, least: usize, most: usize) -> Reading<Run>
+    ensures { read result ≡ run_p least most T.thing_p file.now at }
+{
+    let run = run_at(file, at, least, most)?;
+    let next = run.past::<T>(file)?;
+    Ok((run, next))
+}
