@@ -17,6 +17,7 @@ pub struct Head {
     pub not_after: u64,
 }
 
+#[tactic(auto, unfolding(crate::specs::Record::head_p))]
 pub(crate) fn head_at(file: &[u8], at: usize) -> Reading<Head>
     ensures { read result ≡ head_p file.now at }
 {
@@ -32,6 +33,7 @@ pub(crate) fn head_at(file: &[u8], at: usize) -> Reading<Head>
 }
 
 // The flags, and the place past the head: of the dates, only that they are there.
+#[tactic(auto, unfolding(crate::specs::Record::head_p))]
 pub(crate) fn flags_past(file: &[u8], at: usize) -> Reading<usize>
     ensures { read result ≡ after (head_p file.now at) (λ head e. got head.flags e) }
 {
@@ -41,6 +43,7 @@ pub(crate) fn flags_past(file: &[u8], at: usize) -> Reading<usize>
 }
 
 // Any version; flags of which a path length's needs a CA's, and that to sign a key usage's, judged when they are read.
+#[tactic(auto, unfolding(crate::specs::Record::opening_p, crate::specs::Certificate::flags_p, crate::specs::Certificate::paired))]
 fn flags_at(file: &[u8], at: usize) -> Reading<(usize, usize)>
     ensures { read result ≡ opening_p file.now at }
 {
@@ -62,6 +65,7 @@ fn lacks(flags: usize, one: usize, other: usize) -> bool
     has_flag(flags, one) && !has_flag(flags, other)
 }
 
+#[tactic(auto, unfolding(crate::specs::Record::dates_p))]
 fn dates_at(file: &[u8], at: usize) -> Reading<(u64, u64)>
     ensures { read result ≡ dates_p file.now at }
 {
