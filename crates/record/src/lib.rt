@@ -16,7 +16,7 @@ ghost use Rattle.record.specs.Parts.{value_or, head_of, strings_of, key_ids_of, 
 use extensions::{Extensions, KeyIds, extensions_at, key_ids_at};
 use fields::{Reading, Span};
 pub use head::Head;
-use head::{flags_past, head_at};
+use head::head_at;
 pub use parties::Names;
 use parties::names_at;
 pub use strings::Strings;
@@ -79,11 +79,10 @@ impl Record {
     }
 
     // The flags of the head, for who needs no more of it.
-    #[tactic(auto, unfolding(crate::specs::Parts::head_of))]
     pub fn flags(self, file: &[u8]) -> usize
         ensures { result ≡ (head_of self file.now).flags }
     {
-        value_or(flags_past(file, self.start as usize), 0)
+        self.head(file).flags
     }
 
     // Serial and algorithms; nowhere where they can't be read.
@@ -159,9 +158,9 @@ fn place_of(at: usize) -> u16
 pub fn record_at(file: &[u8], at: usize) -> Reading<Record>
     ensures { read result ≡ record_p file.now at }
 {
-    let (flags, strings) = flags_past(file, at)?;
+    let (head, strings) = head_at(file, at)?;
     let (_, names) = strings_at(file, strings)?;
     let (names, rest) = names_at(file, names)?;
-    let (_, next) = extensions_at(file, rest, flags)?;
+    let (_, next) = extensions_at(file, rest, head.flags)?;
     Ok((Record::placed(at, names.issuer, names.subject, rest), next))
 }
