@@ -1,6 +1,6 @@
--- Arguments that are judged through, for any thing: what a reader of a whole argument has to show at each of its returns (`left_over`,
--- `fills`, `bad`), and what its answer tells of the argument (`holds`, `stops`), for the six relations of same and subtree. What a relation
--- then answers: same/proofs/Asked.antt; a whole argument: `whole` of fields/specs/Fields.antt.
+-- Arguments that are judged through, for any thing: what `whole` has to show at each of its returns (`left_over`, `fills`, `bad`), and what
+-- its answer tells of the argument (`holds`, `stops`), for the six relations of same and subtree. What a relation then answers:
+-- same/proofs/Asked.antt; a whole argument: `whole` of specs/Fields.antt.
 use Prim.Native.Nat.{ℕ, ◌<◌, ◌≤◌}
 use mathlib.Core.Path.{◌≡◌, refl, sym, ap, ◌∙◌}
 use mathlib.Core.Bool.{Bool, true, false, cond}
@@ -11,8 +11,7 @@ use lib.Dec.{ltb}
 use borrow.Author.Tests.{lt-ltb, le-ltb}
 use Rattle.fields.specs.Fields.{Parsed, got, stop, after, whole}
 use Rattle.fields.specs.Answers.{number, passing, passed}
-use Rattle.fields.specs.declared.Past.{Past}
-use Rattle.fields.specs.declared.Past.TheVariants.{Got, Stop}
+use Rattle.std.specs.Prelude.{Result, Ok, Err}
 use Rattle.fields.specs.declared.fault.Fault.{Fault}
 use Rattle.fields.proofs.Ends.{passing_stops}
 
@@ -70,9 +69,9 @@ module _ {A : Type 0} (p : List ℕ → ℕ → Parsed A) (s : List ℕ) where
         record { thing = a; read = h ∙ ap (got a) m; is = rw (h, g, m) }
   holds_by (stop r) h e k = let z : ◌≡◌ {A = ℕ} 0 1 = cc in absurd (omega arith)
 
-  pub holds : (r : Past) → passed r ≡ passing (whole p s) → (e : ℕ) → r ≡ Got e → Holds e
+  pub holds : (r : Result ℕ Fault) → passed r ≡ passing (whole p s) → (e : ℕ) → r ≡ Ok e → Holds e
   unfolding whole
   holds r h e k = holds_by (p s 0) refl e (sym h ∙ ap passed k)
 
-  pub stops : (r : Past) → passed r ≡ passing (whole p s) → (f : Fault) → r ≡ Stop f → whole p s ≡ stop (number f)
+  pub stops : (r : Result ℕ Fault) → passed r ≡ passing (whole p s) → (f : Fault) → r ≡ Err f → whole p s ≡ stop (number f)
   stops r h f k = passing_stops (whole p s) (number f) (sym h ∙ ap passed k)
