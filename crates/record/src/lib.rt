@@ -23,7 +23,7 @@ pub use strings::Strings;
 use strings::strings_at;
 
 // A record that was read: where it starts, where its two names start, and where what is behind them starts.
-#[derive(Clone, Copy)]
+#[derive(Clone, Copy, Default)]
 pub struct Record {
     start: u16,
     issuer: u16,
@@ -50,12 +50,7 @@ impl Record {
     pub fn new() -> Record
         ensures { result ≡ fresh }
     {
-        Record {
-            start: 0,
-            issuer: 0,
-            subject: 0,
-            rest: 0,
-        }
+        Record::default()
     }
 
     // A record by its places. No card file has so many bytes that a place wraps.
@@ -136,6 +131,18 @@ impl Record {
     }
 }
 
+// The record at a place.
+#[tactic(auto, unfolding(crate::specs::Record::record_p))]
+pub fn record_at(file: &[u8], at: usize) -> Reading<Record>
+    ensures { read result ≡ record_p file.now at }
+{
+    let (head, strings) = head_at(file, at)?;
+    let (_, names) = strings_at(file, strings)?;
+    let (names, rest) = names_at(file, names)?;
+    let (_, next) = extensions_at(file, rest, head.flags)?;
+    Ok((Record::placed(at, names.issuer, names.subject, rest), next))
+}
+
 // What was read, or else.
 fn value_or<T: Copy>(found: Reading<T>, other: T) -> T
     ensures { result ≡ value_or other (read found) }
@@ -151,16 +158,4 @@ fn place_of(at: usize) -> u16
     ensures { result ≡ place_of at }
 {
     (at % (Record::PLACE_MOST + 1)) as u16
-}
-
-// The record at a place.
-#[tactic(auto, unfolding(crate::specs::Record::record_p))]
-pub fn record_at(file: &[u8], at: usize) -> Reading<Record>
-    ensures { read result ≡ record_p file.now at }
-{
-    let (head, strings) = head_at(file, at)?;
-    let (_, names) = strings_at(file, strings)?;
-    let (names, rest) = names_at(file, names)?;
-    let (_, next) = extensions_at(file, rest, head.flags)?;
-    Ok((Record::placed(at, names.issuer, names.subject, rest), next))
 }
