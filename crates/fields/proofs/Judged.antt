@@ -1,14 +1,13 @@
--- Arguments that are judged through, for any thing: what `whole` has to show at each of its returns (`left_over`, `fills`, `bad`), and what
--- its answer tells of the argument (`holds`, `stops`), for the six relations of same and subtree. What a relation then answers:
--- same/proofs/Asked.antt; a whole argument: `whole` of specs/Fields.antt.
-use Prim.Native.Nat.{ℕ, ◌<◌, ◌≤◌}
+-- Arguments that are judged through, for any thing: where they end (`whole_ends`), for src/thing.rt, and what the answer of `whole` tells of
+-- the argument (`holds`, `stops`), for the six relations of same and subtree. What a relation then answers: same/proofs/Asked.antt; a whole
+-- argument: `whole` of specs/Fields.antt.
+use Prim.Native.Nat.{ℕ}
 use mathlib.Core.Path.{◌≡◌, refl, sym, ap, ◌∙◌}
 use mathlib.Core.Bool.{Bool, true, false, cond}
 use mathlib.Core.List.{List}
 use native.Mathlib.Omega.{arith}
 use lib.ListN.{length}
 use lib.Dec.{ltb}
-use borrow.Author.Tests.{lt-ltb, le-ltb}
 use Rattle.fields.specs.Fields.{Parsed, got, stop, after, whole}
 use Rattle.fields.specs.Answers.{number, passing, passed}
 use Rattle.std.specs.Prelude.{Result, Ok, Err}

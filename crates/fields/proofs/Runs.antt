@@ -1,7 +1,7 @@
 -- So many of a thing in a row, one after another from the first, for any thing. A loop past them: a turn that passes one (`run_next`), a turn
 -- that stops (`run_stops`), its end (`run_ends`). A loop that asks each: a turn that is told yes, no or nothing (`any_yes`, `any_next`,
--- `any_untold`), its end (`any_ends`). Then a count and its things: both are there (`run_got`), a thing is not (`run_cut`), the count is
--- not (`run_uncounted`). What a run that was read holds: Meaning.antt of lists; a row of things by itself: Many.antt.
+-- `any_untold`), its end (`any_ends`). Then a count and its things by where the things end (`run_by_ends`). What a run that was read holds:
+-- lists/proofs/Meaning.antt; a row of things by itself: Many.antt.
 use Prim.Native.Nat.{ℕ, zero, suc, ◌+◌, ◌-◌, ◌<◌, ◌≤◌}
 use mathlib.Core.Bool.{Bool, true, false, ◌||◌}
 use mathlib.Core.List.{List}
