@@ -80,7 +80,13 @@ pub fn key_ids_at(file: &[u8], at: usize, flags: usize) -> Reading<KeyIds>
     ensures { read result ≡ key_ids_p flags file.now at }
 {
     let (authority, at) = option_at(file, at, flags, Flags::AUTHORITY_KEY, KeyIds::KEY_ID_MOST)?;
-    let (authority_serial, at) = option_at(file, at, flags, Flags::AUTHORITY_SERIAL, KeyIds::SERIAL_MOST)?;
+    let (authority_serial, at) = option_at(
+        file,
+        at,
+        flags,
+        Flags::AUTHORITY_SERIAL,
+        KeyIds::SERIAL_MOST,
+    )?;
     let (subject, next) = option_at(file, at, flags, Flags::SUBJECT_KEY, KeyIds::KEY_ID_MOST)?;
     let key_ids = KeyIds {
         authority,

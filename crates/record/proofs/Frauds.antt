@@ -1,9 +1,7 @@
 -- A fraud that no edit of an operand makes: its answer does not satisfy the contract of `record_at`. The others are edits in must-fail/;
 -- docs/FRAUDS.md lists them all.
-use Prim.Native.Nat.{ℕ}
 use mathlib.Core.Path.{◌≡◌}
 use mathlib.Core.List.{[], ◌∷◌}
-use native.Mathlib.Omega.{arith}
 use Rattle.std.specs.Prelude.{Err}
 use Rattle.fields.specs.Answers.{read}
 use Rattle.fields.specs.Fields.{count_p, byte_p}
