@@ -101,16 +101,13 @@ fn verdicts_past(file: &[u8], first: usize, n: usize) -> Result<usize, Fault>
     ensures { passed result ≡ passing (many verdict_p n file.now first) }
 {
     let there = &file[first..];
-    if n <= there.len() {
-        if any_above_yes(&there[..n]) {
-            return Err(Fault::BadValue);
-        }
-        return Ok(first + n);
-    }
-    if any_above_yes(there) {
+    if any_above_yes(there.get(..n).unwrap_or(there)) {
         return Err(Fault::BadValue);
     }
-    Err(Fault::CutShort)
+    if there.len() < n {
+        return Err(Fault::CutShort);
+    }
+    Ok(first + n)
 }
 
 // Whether a byte is more than a yes. It does not stop at one, so that the compiler can judge many bytes at once.
