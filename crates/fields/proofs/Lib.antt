@@ -1,4 +1,5 @@
 pub mod After
+pub mod Asked
 pub mod Big
 pub mod Counts
 pub mod Ends
