@@ -1,6 +1,6 @@
-pub mod Columns
 pub mod Forward
 pub mod Pass
+pub mod Pinned
 pub mod Product
 pub mod Rows
 pub mod Values

@@ -2,7 +2,7 @@
 -- (`rows_judged`), and one law for each answer of `verdicts_past` (`rows_bad`, `rows_cut`, `rows-got`). A verdict: specs/Verdicts.antt; the
 -- pass: specs/Parts.antt.
 use Prim.Native.Nat.{ℕ, zero, suc, ◌+◌, ◌-◌, ◌<◌, ◌≤◌}
-use mathlib.Core.Path.{◌≡◌, refl, sym, ◌∙◌}
+use mathlib.Core.Path.{◌≡◌, refl, sym, ap, ◌∙◌}
 use mathlib.Core.Bool.{Bool, true, false, cond, ◌||◌, or-false, or_assoc, false≢true}
 use mathlib.Core.List.{List, [], ◌∷◌}
 use mathlib.Core.Logic.{inl, inr}
@@ -83,20 +83,19 @@ module _ (s : List ℕ) where
 
 -- ---- the answers of `verdicts_past`
 
--- the first n, or all that are there
-pub taken : {R : Type 0} (now : R → List ℕ) (l : List ℕ) (n : ℕ) (r : Option R) (d : R) → now d ≡ l → PartBy now l 0 n r → now (unwrap_or r d) ≡ take n l
-taken now l n None d h p =
-    let long : length l ≤ n = elim p.0 [ inl w ↦ omega arith | inr w ↦ omega arith ] in
-    h ∙ sym (take_all n l long)
-taken now l n (Some x) d h p = p.0.2.2.0
-
--- the bytes of a file, and n verdicts from a place on
+-- the bytes of a file, and n verdicts from a place on, or as many as are there
 module _ (s : List ℕ) (bytes : (i : ℕ) → get_or s i 0 < 256) (first n : ℕ) where
-  pub rows_bad : first ≤ length s → any_above_yes (take n (drop first s)) ≡ true → stop 8 ≡ passing (many verdict_p n s first)
-  rows_bad h e = sym (rows_judged s bytes n first h ∙ rw e)
+  abbrev pub front : List ℕ
+  front = take n (take (length s - first) (drop first s))
 
-  pub rows_cut : first ≤ length s → length s < first + n → any_above_yes (take n (drop first s)) ≡ false → stop 6 ≡ passing (many verdict_p n s first)
-  rows_cut h few e = sym (rows_judged s bytes n first h ∙ rw (e, lt-leb (first + n) (length s) few))
+  front_is : front ≡ take n (drop first s)
+  front_is = ap (take n) (take_all (length s - first) (drop first s) (simp length-drop (omega arith)))
 
-  pub rows-got : first + n ≤ length s → any_above_yes (take n (drop first s)) ≡ false → got tt (first + n) ≡ passing (many verdict_p n s first)
-  rows-got all e = sym (rows_judged s bytes n first (omega arith) ∙ rw (e, le-leb (first + n) (length s) all))
+  pub rows_bad : first ≤ length s → any_above_yes front ≡ true → stop 8 ≡ passing (many verdict_p n s first)
+  rows_bad h e = sym (rows_judged s bytes n first h ∙ rw (rw front_is at e))
+
+  pub rows_cut : first ≤ length s → length s < first + n → any_above_yes front ≡ false → stop 6 ≡ passing (many verdict_p n s first)
+  rows_cut h few e = sym (rows_judged s bytes n first h ∙ rw (rw front_is at e, lt-leb (first + n) (length s) few))
+
+  pub rows-got : first + n ≤ length s → any_above_yes front ≡ false → got tt (first + n) ≡ passing (many verdict_p n s first)
+  rows-got all e = sym (rows_judged s bytes n first (omega arith) ∙ rw (rw front_is at e, le-leb (first + n) (length s) all))
