@@ -2,10 +2,12 @@
 -- and a thing that is read after another, once it is known what the other was (`after_ok`, `after_err`). For the functions that read one
 -- thing after another; an answer that is taken apart: Ends.antt, After.antt.
 use Prim.Native.Nat.{ℕ}
-use mathlib.Core.Path.{◌≡◌, refl, sym, ap, ◌∙◌}
+use mathlib.Core.Path.{◌≡◌, sym, ap, ◌∙◌}
+use Rattle.std.proofs.lemmas.Result.{err_from_is_err_and}
 use Rattle.std.specs.Prelude.{Result, Ok, Err}
+use Rattle.std.specs.Result.{IsErrAnd}
 use Rattle.fields.specs.Fields.{Parsed, got, stop, after}
-use Rattle.fields.specs.Answers.{number, read, spanned, begun, passing, passed, handed, numbered}
+use Rattle.fields.specs.Answers.{number, read, spanned, begun, passed}
 use Rattle.fields.specs.declared.fault.Fault.{Fault}
 use Rattle.fields.specs.declared.run.Run.{Run}
 use Rattle.fields.specs.declared.string.Span.{Span}
@@ -39,6 +41,23 @@ module _ {r : Result ℕ Fault} {x : Parsed (Unit {0})} (h : passed r ≡ x) whe
 
   pub passed_err : {f : Fault} → r ≡ Err f → x ≡ stop (number f)
   passed_err k = sym h ∙ ap passed k
+
+-- ---- what `?` answers with a fault
+
+asked : {A B : Type 0} (says : Result A Fault → Parsed B) (r : Result A Fault) (f : Fault) {x : Parsed B} → IsErrAnd r (λ g. g ≡ f) → x ≡ says (Err f) → says r ≡ x
+asked says r f e h = let p = err_from_is_err_and r e in rw (p.1, p.2) (sym h)
+
+pub read_asked : {A : Type 0} (r : Result (A × ℕ) Fault) (f : Fault) {x : Parsed A} → IsErrAnd r (λ g. g ≡ f) → x ≡ stop (number f) → read r ≡ x
+read_asked r f e h = asked read r f e h
+
+pub spanned_asked : (r : Result Span Fault) (f : Fault) {x : Parsed Span} → IsErrAnd r (λ g. g ≡ f) → x ≡ stop (number f) → spanned r ≡ x
+spanned_asked r f e h = asked spanned r f e h
+
+pub begun_asked : (r : Result Run Fault) (f : Fault) {x : Parsed ℕ} → IsErrAnd r (λ g. g ≡ f) → x ≡ stop (number f) → begun r ≡ x
+begun_asked r f e h = asked begun r f e h
+
+pub passed_asked : (r : Result ℕ Fault) (f : Fault) {x : Parsed (Unit {0})} → IsErrAnd r (λ g. g ≡ f) → x ≡ stop (number f) → passed r ≡ x
+passed_asked r f e h = asked passed r f e h
 
 -- ---- what is read next
 

@@ -8,7 +8,9 @@ pub mod Forward
 pub mod ForwardFields
 pub mod Frauds
 pub mod Held
+pub mod Judged
 pub mod Many
 pub mod Pinned
+pub mod Runs
 pub mod Strings
 pub mod Values
