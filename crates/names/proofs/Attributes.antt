@@ -4,6 +4,7 @@
 use Prim.Native.Nat.{ℕ}
 use mathlib.Core.Path.{◌≡◌, refl, sym, ap, ◌∙◌}
 use mathlib.Core.List.{List}
+use Rattle.std.specs.Prelude.{Result, Ok, Err}
 use Rattle.fields.specs.Fields.{Parsed, got, stop, after}
 use Rattle.fields.specs.Spans.{span_p}
 use Rattle.fields.specs.Answers.{number}
@@ -12,9 +13,7 @@ use Rattle.fields.specs.declared.string.Span.{Span}
 use Rattle.fields.proofs.Strings.{span_read, string_got, string_stops}
 use Rattle.names.specs.Names.{attr_p, oid_most, value_most}
 use Rattle.names.specs.Answers.{spans_p, attributed, attr_of}
-use Rattle.names.specs.declared.read.Attribute.{Attribute}
-use Rattle.names.specs.declared.read.AttributeAt.{AttributeAt}
-use Rattle.names.specs.declared.read.AttributeAt.TheVariants.{Got, Stop}
+use Rattle.names.specs.declared.attribute.Attribute.{Attribute}
 
 module _ (s : List ℕ) (at : ℕ) where
   -- attr_p by the places that spans_p finds
@@ -42,11 +41,11 @@ module _ (s : List ℕ) (at : ℕ) where
   unfolding attr_by
   attr_placed a e h = rw h at attr_told
 
-  module _ (r : AttributeAt) (h : attributed r ≡ spans_p 1 oid_most 0 value_most s at) where
-    pub attr_read : (a : Attribute) → r ≡ Got a → attr_p s at ≡ got (attr_of a s) a.value.end
+  module _ (r : Result Attribute Fault) (h : attributed r ≡ spans_p 1 oid_most 0 value_most s at) where
+    pub attr_read : (a : Attribute) → r ≡ Ok a → attr_p s at ≡ got (attr_of a s) a.value.end
     unfolding attr_by
     attr_read a e = rw (← ap attributed (sym e) ∙ h) at attr_told
 
-    pub attr_stops : (f : Fault) → r ≡ Stop f → attr_p s at ≡ stop (number f)
+    pub attr_stops : (f : Fault) → r ≡ Err f → attr_p s at ≡ stop (number f)
     unfolding attr_by
     attr_stops f e = rw (← ap attributed (sym e) ∙ h) at attr_told

@@ -33,6 +33,7 @@ impl Thing for Attribute {
 }
 
 // The attribute at a place; the place past it is the end of its value.
+#[tactic(auto, unfolding(crate::specs::Answers::spans_p))]
 pub fn attribute_at(file: &[u8], at: usize) -> Result<Attribute, Fault>
     ensures { attributed result
         ≡ spans_p Attribute.OID_LEAST Attribute.OID_MOST Attribute.VALUE_LEAST Attribute.VALUE_MOST file.now at }
