@@ -1,0 +1,3 @@
+pub mod Records
+pub mod Standing
+pub mod Two
