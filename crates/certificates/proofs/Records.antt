@@ -1,62 +1,52 @@
--- Records in so many places, for any number of places: a list by its count, where the section before it ends (`count-few`, `list_counted`,
--- `list_stopped`); a loop that has filled the places has read a row, whatever value is made of its count and its records (`row_ends`); how
--- many records there are (`size-within`); and the record at a place by the tests of its place (`record_none`, `record_outside`,
--- `record_there`, `record_within`). The loop's turns: fields/proofs/Filling.antt.
+-- Records in so many places, for any number of places: a list by its count, one law for each answer of `certificates_at` (`uncounted`,
+-- `list_stops`, `list_ends`), and the count within its bounds (`counted_few`, `counted_byte`); how many records there are (`size-within`);
+-- and the record at a place by the tests of its place (`record_none`, `record_outside`, `record_there`, `record_within`). The loop's turns:
+-- fields/proofs/Filling.antt.
 use Prim.Native.Nat.{ℕ, ◌<◌, ◌≤◌}
-use mathlib.Core.Path.{◌≡◌, refl, ap, ◌∙◌}
+use mathlib.Core.Path.{◌≡◌, refl}
 use mathlib.Core.Bool.{Bool, true, false, cond}
 use mathlib.Core.List.{List}
 use native.Mathlib.Omega.{arith}
 use lib.Dec.{leb}
 use lib.ListN.{length, get_or, get_or-eq_default}
 use borrow.Author.Tests.{lt-ltb, le-ltb, leb-true, leb-false}
-use Rattle.fields.specs.Fields.{Parsed, got, stop, after, many, count_p, counted_p}
+use Rattle.fields.specs.Fields.{got, stop, many, count_p, counted_p}
 use Rattle.fields.proofs.Counts.{count_read}
 use Rattle.fields.proofs.Many.{many-length}
 use Rattle.fields.proofs.Filling.{Filling, filling_ends}
 use Rattle.record.specs.Record.{record_p}
 use Rattle.record.specs.Fresh.{fresh}
 use Rattle.record.specs.declared.Record.{Record}
-use Rattle.certificates.specs.Certificates.{filled, size_of, record_of}
+use Rattle.certificates.specs.Certificates.{filled, certificates_p, size_of, record_of}
 
-module _ (least most : ℕ) (s : List ℕ) where
-  -- the count, where the section before ends
-  abbrev counting : Parsed (Unit {0}) → Parsed ℕ
-  counting x = after x (λ _ at. count_p least most s at)
+-- ---- a list by its count
 
-  pub count-few : (x : Parsed (Unit {0})) (n e : ℕ) → counting x ≡ got n e → n ≤ most
-  count-few (got _ at) n e h = (count_read least most s at n e h).few
-  count-few (stop r) n e h = let z : ◌≡◌ {A = ℕ} 0 1 = cc in absurd (omega arith)
+module _ (most : ℕ) (s : List ℕ) (at : ℕ) where
+  pub uncounted : (r : ℕ) → count_p 0 most s at ≡ stop r → certificates_p most s at ≡ stop r
+  unfolding certificates_p counted_p
+  uncounted r h = rw h
 
-  module _ {B : Type 0} (made : List Record → ℕ → Parsed B) where
-    rows : ℕ → ℕ → Parsed B
-    rows n e = after (many record_p n s e) made
+  module _ (n first : ℕ) (h : count_p 0 most s at ≡ got n first) where
+    pub counted_few : n ≤ most
+    counted_few = (count_read 0 most s at n first h).few
 
-    list_by_count : (x : Parsed (Unit {0})) → after x (λ _ at. after (counted_p least most record_p s at) made) ≡ after (counting x) rows
-    unfolding counted_p rows
-    list_by_count (got _ at) = by_count (count_p least most s at)
-      where
-        by_count : (y : Parsed ℕ) → after (after y (λ n e. many record_p n s e)) made ≡ after y (λ n e. after (many record_p n s e) made)
-        by_count (got n e) = refl
-        by_count (stop r) = refl
-    list_by_count (stop r) = refl
+    -- a count that was read is a byte
+    pub counted_byte : get_or s at 0 < 256 → n < 256
+    counted_byte byte = omega (arith, (count_read 0 most s at n first h).is)
 
-    module _ (x : Parsed (Unit {0})) where
-      pub list_counted : (n e : ℕ) → counting x ≡ got n e → after x (λ _ at. after (counted_p least most record_p s at) made) ≡ after (many record_p n s e) made
-      unfolding rows
-      list_counted n e h = list_by_count x ∙ ap (λ y. after y rows) h
+    pub list_stops : (r : ℕ) → many record_p n s first ≡ stop r → certificates_p most s at ≡ stop r
+    unfolding certificates_p counted_p
+    list_stops r k = rw (h, k)
 
-      pub list_stopped : (r : ℕ) → counting x ≡ stop r → after x (λ _ at. after (counted_p least most record_p s at) made) ≡ stop r
-      list_stopped r h = list_by_count x ∙ ap (λ y. after y rows) h
+    pub list_ends : (places : List Record) (next i : ℕ) → Filling record_p s most fresh first n places next i → n ≤ i
+        → got (record { count = n; records = places }) next ≡ certificates_p most s at
+    unfolding certificates_p counted_p filled
+    list_ends places next i f l =
+        let t = filling_ends record_p s most fresh first n places next i f l in
+        let long : length t.front ≡ n = many-length record_p s n first t.front next t.read in
+        rw (h, t.read, t.full, long)
 
-pub row_ends : {A : Type 0} (made : ℕ → List Record → A) (s : List ℕ) (most first n : ℕ) (places : List Record) (at i : ℕ)
-    → Filling record_p s most fresh first n places at i → n ≤ i
-    → got (made n places) at ≡ after (many record_p n s first) (λ l e. got (made (length l) (filled most l)) e)
-unfolding filled
-row_ends made s most first n places at i f h =
-    let t = filling_ends record_p s most fresh first n places at i f h in
-    let long : length t.front ≡ n = many-length record_p s n first t.front at t.read in
-    rw (t.read, t.full, long)
+-- ---- by place
 
 module _ (most count : ℕ) where
   pub size-within : size_of most count ≤ most

@@ -1,4 +1,4 @@
--- What roots and a bundle that were read say of their records: how many they are (`roots_read_lem`, `bundle_read`), the record at a place
+-- What certificates that were read say of their records: how many they are (`certificates_read`), the record at a place
 -- (`record_of_lem`), and that each was read somewhere in the file (`record_stands`). For card/proofs/Sections.antt and those after it; what a
 -- record that was read says: record/proofs/Meaning.antt.
 use Prim.Native.Nat.{ℕ, ◌-◌, ◌<◌, ◌≤◌}
@@ -7,7 +7,6 @@ use mathlib.Core.List.{List}
 use native.Mathlib.Omega.{arith}
 use lib.ListN.{length, get_or, replicate, length-append, length-replicate, get_or-append}
 use borrow.Author.Tests.{lt-ltb}
-use Rattle.places.specs.Limits.{roots_most, bundle_most}
 use Rattle.fields.specs.Fields.{got, count_p, counted_p, many}
 use Rattle.fields.proofs.After.{after-got, got-is}
 use Rattle.fields.proofs.Counts.{count_read}
@@ -16,9 +15,8 @@ use Rattle.record.specs.Record.{place_most, record_p}
 use Rattle.record.specs.Fresh.{fresh}
 use Rattle.record.specs.declared.Record.{Record}
 use Rattle.record.proofs.Meaning.{RecordRead, record_read}
-use Rattle.certificates.specs.Certificates.{filled, roots_p, bundle_p, record_of}
-use Rattle.certificates.specs.declared.roots.Roots.{Roots}
-use Rattle.certificates.specs.declared.bundle.Bundle.{Bundle}
+use Rattle.certificates.specs.Certificates.{filled, certificates_p, record_of}
+use Rattle.certificates.specs.declared.certificates.Certificates.{Certificates}
 
 -- ---- so many records
 
@@ -47,19 +45,13 @@ module _ (most : ℕ) (s : List ℕ) (at : ℕ) (l : List Record) (e : ℕ) wher
         few = omega arith;
       }
 
-pub roots_read_lem : (s : List ℕ) (at : ℕ) (r : Roots) (e : ℕ) → roots_p s at ≡ got r e → RecordsRead roots_most s r.count r.records e
-unfolding roots_p
-roots_read_lem s at r e h =
-    let read = after-got (counted_p 0 roots_most record_p s at) _ h in
-    got-is (λ (r : Roots) e. RecordsRead roots_most s r.count r.records e) read.next
-    (records_read roots_most s at read.value read.place read.first)
-
-pub bundle_read : (s : List ℕ) (at : ℕ) (b : Bundle) (e : ℕ) → bundle_p s at ≡ got b e → RecordsRead bundle_most s b.count b.records e
-unfolding bundle_p
-bundle_read s at b e h =
-    let read = after-got (counted_p 0 bundle_most record_p s at) _ h in
-    got-is (λ (b : Bundle) e. RecordsRead bundle_most s b.count b.records e) read.next
-    (records_read bundle_most s at read.value read.place read.first)
+pub certificates_read : (most : ℕ) (s : List ℕ) (at : ℕ) (c : Certificates most) (e : ℕ) → certificates_p most s at ≡ got c e
+    → RecordsRead most s c.count c.records e
+unfolding certificates_p
+certificates_read most s at c e h =
+    let read = after-got (counted_p 0 most record_p s at) _ h in
+    got-is (λ (c : Certificates most) e. RecordsRead most s c.count c.records e) read.next
+    (records_read most s at read.value read.place read.first)
 
 -- ---- by place
 
