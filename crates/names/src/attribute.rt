@@ -27,6 +27,7 @@ impl Thing for Attribute {
 
     ghost thing_p = { attr_p };
 
+    #[tactic(auto, using(crate::proofs::Attributes::attr_by_spans))]
     fn past(file: &[u8], at: usize) -> Result<usize, Fault> {
         Ok(attribute_at(file, at)?.value.end)
     }
@@ -39,11 +40,6 @@ pub fn attribute_at(file: &[u8], at: usize) -> Result<Attribute, Fault>
         ≡ spans_p Attribute.OID_LEAST Attribute.OID_MOST Attribute.VALUE_LEAST Attribute.VALUE_MOST file.now at }
 {
     let oid = string_at(file, at, Attribute::OID_LEAST, Attribute::OID_MOST)?;
-    let value = string_at(
-        file,
-        oid.end,
-        Attribute::VALUE_LEAST,
-        Attribute::VALUE_MOST,
-    )?;
+    let value = string_at(file, oid.end, Attribute::VALUE_LEAST, Attribute::VALUE_MOST)?;
     Ok(Attribute { oid, value })
 }
