@@ -1,4 +1,5 @@
 pub mod After
+pub mod Asked
 pub mod Big
 pub mod Counts
 pub mod Ends
@@ -7,7 +8,9 @@ pub mod Forward
 pub mod ForwardFields
 pub mod Frauds
 pub mod Held
+pub mod Judged
 pub mod Many
 pub mod Pinned
+pub mod Runs
 pub mod Strings
 pub mod Values

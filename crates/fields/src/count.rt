@@ -6,6 +6,7 @@ ghost use Rattle.fields.specs.Answers.{read};
 use crate::{Fault, Reading};
 
 // The byte at a place, from least to most, and the place past it.
+#[tactic(auto, unfolding(crate::specs::Fields::count_p))]
 pub fn count_at(file: &[u8], at: usize, least: usize, most: usize) -> Reading<usize>
     ensures { read result ≡ count_p least most file.now at }
 {
@@ -20,6 +21,7 @@ pub fn count_at(file: &[u8], at: usize, least: usize, most: usize) -> Reading<us
 }
 
 // Any byte, and the place past it.
+#[tactic(auto, unfolding(crate::specs::Fields::byte_p))]
 pub fn byte_at(file: &[u8], at: usize) -> Reading<usize>
     ensures { read result ≡ byte_p file.now at }
 {

@@ -33,6 +33,7 @@ pub fn string_at(file: &[u8], at: usize, least: usize, most: usize) -> Result<Sp
 }
 
 // A span's bytes; none where the span does not lie within the file.
+#[tactic(auto, unfolding(crate::specs::Spans::bytes_of))]
 pub fn part(file: &[u8], span: Span) -> &[u8]
     ensures { result.now ≡ bytes_of span file.now }
 {

@@ -7,6 +7,7 @@ use crate::Fault;
 
 pub trait Thing {
     ghost Value: { Type 0 };
+
     ghost thing_p: { List ℕ → ℕ → Parsed Value };
 
     // The place past the thing at a place.
