@@ -1,9 +1,12 @@
 // What is asked of the leaf alone: that it is for servers, and for the host.
 ghost use Rattle.std.specs.Prelude.{◌≡◌};
-ghost use Rattle.rules.specs.Rules.{serving};
+ghost use Rattle.fields.specs.Answers.{read};
+ghost use Rattle.fields.specs.Fields.{got, after};
+ghost use Rattle.lists.specs.Lists.{usage_p, dns_name_p};
+ghost use Rattle.rules.specs.Rules.{serving, names_host};
 ghost use Rattle.rules.specs.Records.{for_servers_at, for_host_at};
 
-use fields::{Run, part};
+use fields::{Reading, Run, part};
 use lists::{DnsName, Usage, dns_name_at, usage_at};
 use text::match_lowered;
 
@@ -14,7 +17,9 @@ pub fn for_servers(file: &[u8], usages: Run) -> bool
     if usages.count == 0 {
         return true;
     }
-    usages.any::<Usage, _>(file, |at| {
+    usages.any::<Usage, _>(file, |at| -> Reading<bool>
+        ensures { read result ≡ after (usage_p file.entry.now at) (λ usage e. got (serving usage) e) }
+    {
         let (usage, next) = usage_at(file, at)?;
         Ok((serving(usage), next))
     })
@@ -37,7 +42,9 @@ pub fn for_host(file: &[u8], host: &[u8], dns: Run) -> bool
     if host.is_empty() {
         return true;
     }
-    dns.any::<DnsName, _>(file, |at| {
+    dns.any::<DnsName, _>(file, |at| -> Reading<bool>
+        ensures { read result ≡ after (dns_name_p file.entry.now at) (λ name e. got (names_host host.entry.now name) e) }
+    {
         let name = dns_name_at(file, at)?;
         Ok((match_lowered(part(file, name), host), name.end))
     })
