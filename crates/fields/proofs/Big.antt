@@ -1,15 +1,14 @@
--- A big-endian number, byte by byte: what a loop that takes one byte more needs (`big_step`, `big_fits`), and what the reader finds
--- (`big_cut`, `big_got`). For the proofs of `big_endian` and `number_at`; the number itself: `big_endian` and `big_p` of specs/Fields.antt.
-use Prim.Native.Nat.{ℕ, ◌+◌, ◌-◌, ◌*◌, ◌^◌, ◌<◌, ◌≤◌}
+-- A big-endian number, byte by byte: what a loop that takes one byte more needs (`big_step`, `big_less`, `big_fits`). For the proof of
+-- `big_endian`; the number itself: `big_endian` of specs/Fields.antt.
+use Prim.Native.Nat.{ℕ, ◌+◌, ◌*◌, ◌^◌, ◌<◌, ◌≤◌}
 use mathlib.Core.Path.{◌≡◌, refl}
 use mathlib.Core.List.{List, [], ◌∷◌, ◌++◌}
 use native.Mathlib.Numerals.{add-one}
 use native.Mathlib.Omega.{arith}
-use lib.ListN.{length, get_or, take, drop}
+use lib.ListN.{length, get_or, take}
 use lib.Seq.{take-suc}
 use lib.Pow.{pow-add, pow_mono}
-use borrow.Author.Tests.{le-leb, lt-leb}
-use Rattle.fields.specs.Fields.{got, stop, bytes_p, big_endian, big_p}
+use Rattle.fields.specs.Fields.{big_endian}
 
 big_snoc : (v : ℕ) (l : List ℕ) (b : ℕ) → big_endian v (l ++ (b ∷ [])) ≡ big_endian v l * 256 + b
 big_snoc v [] b = refl
@@ -27,15 +26,3 @@ pub big_fits : (i v b : ℕ) → i < 8 → v < 2 ^ (8 * i) → b < 256 → v * 2
 big_fits i v b m h p =
     let l : 8 * (i + 1) ≤ 64 = omega arith in
     omega (arith, big_less i v b h p, pow_mono l)
-
-module _ (width : ℕ) (s : List ℕ) (at : ℕ) where
-  pub big_cut : length s < at + width → big_p width s at ≡ stop 6
-  unfolding big_p bytes_p
-  big_cut h = rw (lt-leb (at + width) (length s) h)
-
-  -- the slice from a place up to the place past the number holds its bytes
-  pub big_got : at + width ≤ length s → (v : ℕ) → v ≡ big_endian 0 (take (at + width - at) (drop at s)) → big_p width s at ≡ got v (at + width)
-  unfolding big_p bytes_p
-  big_got h v e =
-      let w : at + width - at ≡ width = omega arith in
-      rw (le-leb (at + width) (length s) h, e, w)

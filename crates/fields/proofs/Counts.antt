@@ -1,5 +1,5 @@
--- A count by its byte and its range: one law for each answer of `count_at` (`count_cut`, `count-below`, `count-above`, `count-got`), and
--- what a count that was read tells (`count_read`, `byte_few`). The count itself: `count_p` of specs/Fields.antt.
+-- A count by its byte and its range: one that is cut short (`count_cut`), one that is right (`count-got`), and what a count that was read
+-- tells (`count_read`, `byte_few`). The count itself: `count_p` of specs/Fields.antt.
 use Prim.Native.Nat.{ℕ, ◌+◌, ◌<◌, ◌≤◌}
 use mathlib.Core.Path.{◌≡◌, refl}
 use mathlib.Core.Bool.{Bool, true, false, cond, ◌&&◌}
@@ -7,21 +7,13 @@ use mathlib.Core.List.{List}
 use native.Mathlib.Omega.{arith}
 use lib.ListN.{length, get_or}
 use lib.Dec.{ltb, leb}
-use borrow.Author.Tests.{ltb-true, leb-true, lt-ltb, le-ltb, le-leb, lt-leb}
+use borrow.Author.Tests.{ltb-true, leb-true, lt-ltb, le-ltb, le-leb}
 use Rattle.fields.specs.Fields.{got, stop, count_p, byte_p}
 
 module _ (least most : ℕ) (s : List ℕ) (at : ℕ) where
   pub count_cut : length s ≤ at → count_p least most s at ≡ stop 6
   unfolding count_p
   count_cut h = rw (le-ltb at (length s) h)
-
-  pub count-below : at < length s → get_or s at 0 < least → count_p least most s at ≡ stop 7
-  unfolding count_p
-  count-below h l = rw (lt-ltb at (length s) h, lt-leb least (get_or s at 0) l)
-
-  pub count-above : at < length s → least ≤ get_or s at 0 → most < get_or s at 0 → count_p least most s at ≡ stop 7
-  unfolding count_p
-  count-above h l m = rw (lt-ltb at (length s) h, le-leb least (get_or s at 0) l, lt-leb (get_or s at 0) most m)
 
   pub count-got : at < length s → least ≤ get_or s at 0 → get_or s at 0 ≤ most → count_p least most s at ≡ got (get_or s at 0) (at + 1)
   unfolding count_p

@@ -1,14 +1,13 @@
--- Arguments that are judged through, for any thing: what `whole` has to show at each of its returns (`left_over`, `fills`, `bad`), and what
--- its answer tells of the argument (`holds`, `stops`), for the six relations of same and subtree. What a relation then answers:
--- same/proofs/Asked.antt; a whole argument: `whole` of specs/Fields.antt.
-use Prim.Native.Nat.{ℕ, ◌<◌, ◌≤◌}
+-- Arguments that are judged through, for any thing: where they end (`whole_ends`), for src/thing.rt, and what the answer of `whole` tells of
+-- the argument (`holds`, `stops`), for the six relations of same and subtree. What a relation then answers: same/proofs/Asked.antt; a whole
+-- argument: `whole` of specs/Fields.antt.
+use Prim.Native.Nat.{ℕ}
 use mathlib.Core.Path.{◌≡◌, refl, sym, ap, ◌∙◌}
 use mathlib.Core.Bool.{Bool, true, false, cond}
 use mathlib.Core.List.{List}
 use native.Mathlib.Omega.{arith}
 use lib.ListN.{length}
 use lib.Dec.{ltb}
-use borrow.Author.Tests.{lt-ltb, le-ltb}
 use Rattle.fields.specs.Fields.{Parsed, got, stop, after, whole}
 use Rattle.fields.specs.Answers.{number, passing, passed}
 use Rattle.std.specs.Prelude.{Result, Ok, Err}
@@ -19,37 +18,20 @@ use Rattle.fields.proofs.Ends.{passing_stops}
 abbrev judged : {A : Type 0} → List ℕ → Parsed A → Parsed A
 judged s x = after x (λ a e. cond (ltb e (length s)) (stop 9) (got a e))
 
-module _ {A : Type 0} (s : List ℕ) where
-  over : (x : Parsed A) (e : ℕ) → passing x ≡ got tt e → e < length s → passing (judged s x) ≡ stop 9
-  over (got a f) e h l =
-      let k : f ≡ e = cc in
-      rw (k, lt-ltb e (length s) l)
-  over (stop r) e h l = let z : ◌≡◌ {A = ℕ} 0 1 = cc in absurd (omega arith)
-
-  filled : (x : Parsed A) (e : ℕ) → passing x ≡ got tt e → length s ≤ e → passing (judged s x) ≡ got tt e
-  filled (got a f) e h l =
-      let k : f ≡ e = cc in
-      rw (k, le-ltb e (length s) l)
-  filled (stop r) e h l = let z : ◌≡◌ {A = ℕ} 0 1 = cc in absurd (omega arith)
-
-  faulty : (x : Parsed A) (r : ℕ) → passing x ≡ stop r → passing (judged s x) ≡ stop r
-  faulty (got a f) r h = let z : ◌≡◌ {A = ℕ} 0 1 = cc in absurd (omega arith)
-  faulty (stop q) r h = cc
-
 module _ {A : Type 0} (p : List ℕ → ℕ → Parsed A) (s : List ℕ) where
-  -- ---- what a reader shows at its returns
+  -- ---- what `whole` has to show
 
-  pub left_over : (e : ℕ) → passing (p s 0) ≡ got tt e → e < length s → passing (whole p s) ≡ stop 9
+  pub whole_ends : passing (whole p s) ≡ judged s (passing (p s 0))
   unfolding whole
-  left_over e h l = over s (p s 0) e h l
+  whole_ends = by_thing (p s 0)
+    where
+      by_end : (a : A) (e : ℕ) (over : Bool) → passing (cond over (stop 9) (got a e)) ≡ cond over (stop 9) (got tt e)
+      by_end a e true = refl
+      by_end a e false = refl
 
-  pub fills : (e : ℕ) → passing (p s 0) ≡ got tt e → length s ≤ e → passing (whole p s) ≡ got tt e
-  unfolding whole
-  fills e h l = filled s (p s 0) e h l
-
-  pub bad : (r : ℕ) → passing (p s 0) ≡ stop r → passing (whole p s) ≡ stop r
-  unfolding whole
-  bad r h = faulty s (p s 0) r h
+      by_thing : (x : Parsed A) → passing (judged s x) ≡ judged s (passing x)
+      by_thing (got a e) = by_end a e (ltb e (length s))
+      by_thing (stop r) = refl
 
   -- ---- what its answer tells
 

@@ -1,6 +1,6 @@
--- So many of a thing in a row, for any thing: a loop that counts down (`many-none`, `many-some`), the first and the rest (`many_split`),
--- the first m and the rest (`many_prefix`), how many were read, what stands at a place of the row (`many_nth`). A loop that keeps what it
--- reads: Filling.antt; a count before the row: names/proofs/Counted.antt, lists/proofs/Runs.antt.
+-- So many of a thing in a row, for any thing: where none end and where some do (`many-none`, `many-some`), the first and the rest
+-- (`many_split`), the first m and the rest (`many_prefix`), how many were read, what stands at a place of the row (`many_nth`). A loop that
+-- keeps what it reads: Filling.antt; a loop past the row, a count before it: Runs.antt.
 use Prim.Native.Nat.{ℕ, zero, suc, ◌-◌, ◌<◌, ◌≤◌}
 use mathlib.Core.Path.{◌≡◌, refl, sym, ap, ◌∙◌}
 use mathlib.Core.List.{List, [], ◌∷◌}

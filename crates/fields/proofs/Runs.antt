@@ -1,7 +1,7 @@
 -- So many of a thing in a row, one after another from the first, for any thing. A loop past them: a turn that passes one (`run_next`), a turn
 -- that stops (`run_stops`), its end (`run_ends`). A loop that asks each: a turn that is told yes, no or nothing (`any_yes`, `any_next`,
--- `any_untold`), its end (`any_ends`). Then a count and its things: both are there (`run_got`), a thing is not (`run_cut`), the count is
--- not (`run_uncounted`). What a run that was read holds: Meaning.antt of lists; a row of things by itself: Many.antt.
+-- `any_untold`), its end (`any_ends`). Then a count and its things by where the things end (`run_by_ends`). What a run that was read holds:
+-- lists/proofs/Meaning.antt; a row of things by itself: Many.antt.
 use Prim.Native.Nat.{ℕ, zero, suc, ◌+◌, ◌-◌, ◌<◌, ◌≤◌}
 use mathlib.Core.Bool.{Bool, true, false, ◌||◌}
 use mathlib.Core.List.{List}
@@ -13,8 +13,9 @@ use Rattle.fields.specs.Fields.{Parsed, got, stop, after, count_p, many}
 use Rattle.fields.specs.Answers.{read, passing}
 use Rattle.fields.specs.Runs.{run_p, passes, any_of}
 use Rattle.fields.specs.declared.fault.Fault.{Fault}
-use Rattle.fields.proofs.Ends.{passing_stops, passing_got}
+use Rattle.fields.proofs.Held.{after_end}
 use Rattle.fields.proofs.Many.{many-none, many-some}
+use Rattle.fields.proofs.Values.{after_same}
 
 -- ---- a loop past them
 
@@ -95,16 +96,8 @@ module _ {A : Type 0} (test : A → Bool) (p : List ℕ → ℕ → Parsed A) (s
 
 -- ---- a count and its things
 
-module _ {A : Type 0} (least most : ℕ) (p : List ℕ → ℕ → Parsed A) (s : List ℕ) (at : ℕ) where
-  pub run_got : {n e f : ℕ} → count_p least most s at ≡ got n e → passing (many p n s e) ≡ got tt f
-      → run_p least most p s at ≡ got (record { count = n; first = e }) f
-  unfolding run_p
-  run_got {n} {e} q h = rw (q, (passing_got (many p n s e) _ h).is)
-
-  pub run_cut : {n e r : ℕ} → count_p least most s at ≡ got n e → passing (many p n s e) ≡ stop r → run_p least most p s at ≡ stop r
-  unfolding run_p
-  run_cut {n} {e} q h = rw (q, passing_stops (many p n s e) _ h)
-
-  pub run_uncounted : {r : ℕ} → count_p least most s at ≡ stop r → run_p least most p s at ≡ stop r
-  unfolding run_p
-  run_uncounted q = rw q
+pub run_by_ends : {A : Type 0} (least most : ℕ) (p : List ℕ → ℕ → Parsed A) (s : List ℕ) (at : ℕ)
+    → run_p least most p s at
+    ≡ after (count_p least most s at) (λ n e. after (passing (many p n s e)) (λ _ f. got (record { count = n; first = e }) f))
+unfolding run_p
+run_by_ends least most p s at = after_same (count_p least most s at) (λ n e. after_end (many p n s e) (got (record { count = n; first = e })))

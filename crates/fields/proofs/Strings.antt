@@ -1,47 +1,22 @@
--- A string's span by its length (`span_stops`, `span_cut`, `span_got`), and a span's bytes: one law for each answer of `string_at` and
--- `part`; what a string that was read tells (`span_read`), and the string by its span (`string_by_span`). Spans: specs/Spans.antt; strings:
--- specs/Fields.antt.
-use Prim.Native.Nat.{ℕ, ◌+◌, ◌-◌, ◌<◌, ◌≤◌}
+-- The bytes of a span within the file (`bytes-within`, `bytes-length`), what a string that was read tells (`span_read`), and the string by its
+-- span (`string_by_span`). Spans: specs/Spans.antt; strings: specs/Fields.antt.
+use Prim.Native.Nat.{ℕ, ◌+◌, ◌-◌, ◌≤◌}
 use mathlib.Core.Path.{◌≡◌, refl, sym, ap, ◌∙◌}
 use mathlib.Core.Bool.{Bool, true, false, cond}
-use mathlib.Core.List.{List, []}
+use mathlib.Core.List.{List}
 use native.Mathlib.Omega.{arith}
 use lib.ListN.{length, take, drop, length-drop}
 use lib.Seq.{length-take-le}
 use lib.Dec.{leb}
-use borrow.Author.Tests.{leb-true, le-leb, lt-leb}
+use borrow.Author.Tests.{leb-true, le-leb}
 use Rattle.fields.specs.Fields.{Parsed, got, stop, after, count_p, bytes_p, string_p}
 use Rattle.fields.specs.Spans.{span_p, bytes_of}
 use Rattle.fields.specs.declared.string.Span.{Span}
 use Rattle.fields.proofs.Counts.{count_read}
 
--- ---- the span of a string
-
-module _ (least most : ℕ) (s : List ℕ) (at : ℕ) where
-  pub span_stops : (r : ℕ) → count_p least most s at ≡ stop r → span_p least most s at ≡ stop r
-  unfolding span_p
-  span_stops r h = rw h
-
-  pub span_cut : (n e : ℕ) → count_p least most s at ≡ got n e → length s < e + n → span_p least most s at ≡ stop 6
-  unfolding span_p
-  span_cut n e h short = rw (h, lt-leb (e + n) (length s) short)
-
-  pub span_got : (n e : ℕ) → count_p least most s at ≡ got n e → e + n ≤ length s
-      → span_p least most s at ≡ got (record { start = e; end = e + n }) (e + n)
-  unfolding span_p
-  span_got n e h there = rw (h, le-leb (e + n) (length s) there)
-
 -- ---- the bytes of a span
 
 module _ (p : Span) (s : List ℕ) where
-  pub bytes_turned : p.end < p.start → bytes_of p s ≡ []
-  unfolding bytes_of
-  bytes_turned h = rw (lt-leb p.start p.end h)
-
-  pub bytes_outside : p.start ≤ p.end → length s < p.end → bytes_of p s ≡ []
-  unfolding bytes_of
-  bytes_outside h l = rw (le-leb p.start p.end h, lt-leb p.end (length s) l)
-
   pub bytes-within : p.start ≤ p.end → p.end ≤ length s → bytes_of p s ≡ take (p.end - p.start) (drop p.start s)
   unfolding bytes_of
   bytes-within h l = rw (le-leb p.start p.end h, le-leb p.end (length s) l)

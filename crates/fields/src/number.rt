@@ -18,6 +18,7 @@ pub fn u64_at(file: &[u8], at: usize) -> Reading<u64>
 }
 
 // The number of so many bytes at a place, and the place past them.
+#[tactic(auto, unfolding(crate::specs::Fields::big_p, crate::specs::Fields::bytes_p))]
 fn number_at<const WIDTH: usize>(file: &[u8], at: usize) -> Reading<u64>
     requires { WIDTH ≤ 8 }
     ensures { read result ≡ big_p WIDTH file.now at }

@@ -52,6 +52,7 @@ pub fn run_at(file: &[u8], at: usize, least: usize, most: usize) -> Result<Run, 
 }
 
 // A count of things, from least to most, and then the things.
+#[tactic(auto, using(crate::proofs::Runs::run_by_ends))]
 pub fn list_at<T: Thing>(file: &[u8], at: usize, least: usize, most: usize) -> Reading<Run>
     ensures { read result ≡ run_p least most T.thing_p file.now at }
 {

@@ -18,7 +18,7 @@ impl Span {
 }
 
 // The string at a place, of least to most bytes. Its length is judged before any of its bytes is needed.
-#[tactic(auto, unfolding(crate::specs::Spans::span_p))]
+#[tactic(auto, unfolding(crate::specs::Spans::span_p, crate::specs::Fields::count_p))]
 pub fn string_at(file: &[u8], at: usize, least: usize, most: usize) -> Result<Span, Fault>
     ensures { spanned result ≡ span_p least most file.now at }
 {

@@ -16,6 +16,7 @@ pub trait Thing {
 }
 
 // The end of a thing that fills its bytes to the last.
+#[tactic(auto, using(crate::proofs::Judged::whole_ends))]
 pub fn whole<T: Thing>(s: &[u8]) -> Result<usize, Fault>
     ensures { passed result ≡ passing (whole T.thing_p s.now) }
 {

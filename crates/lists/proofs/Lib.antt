@@ -1,5 +1,3 @@
 pub mod Forward
 pub mod Meaning
-pub mod Pinned
-pub mod Runs
 pub mod Values

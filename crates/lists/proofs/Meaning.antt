@@ -15,8 +15,8 @@ use Rattle.fields.proofs.Counts.{count_read}
 use Rattle.fields.proofs.Many.{many-length, many_nth}
 use Rattle.fields.proofs.Strings.{span_read, string_by_span}
 use Rattle.lists.specs.Lists.{usage_p, dns_name_p, usage_most, dns_name_most}
-use Rattle.lists.specs.Runs.{run_p}
-use Rattle.lists.specs.declared.Run.{Run}
+use Rattle.fields.specs.Runs.{run_p}
+use Rattle.fields.specs.declared.run.Run.{Run}
 
 pub record RunRead {A : Type 0} (most : ℕ) (p : List ℕ → ℕ → Parsed A) (s : List ℕ) (r : Run) (e : ℕ) : Type 0 where
   pub things : List A
@@ -25,7 +25,7 @@ pub record RunRead {A : Type 0} (most : ℕ) (p : List ℕ → ℕ → Parsed A)
   pub as_many : length things ≡ r.count
 
 module _ {A : Type 0} (most : ℕ) (p : List ℕ → ℕ → Parsed A) (s : List ℕ) where
-  pub run_read : (at : ℕ) (r : Run) (e : ℕ) → run_p most p s at ≡ got r e → RunRead most p s r e
+  pub run_read : (at : ℕ) (r : Run) (e : ℕ) → run_p 0 most p s at ≡ got r e → RunRead most p s r e
   unfolding run_p
   run_read at r e h =
       let count = after-got (count_p 0 most s at) _ h in

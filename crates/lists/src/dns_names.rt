@@ -26,6 +26,7 @@ impl Thing for DnsName {
 
     ghost thing_p = { dns_name_p };
 
+    #[tactic(auto, using(fields::proofs::Strings::string_by_span), unfolding(crate::specs::Lists::dns_name_p))]
     fn past(file: &[u8], at: usize) -> Result<usize, Fault> {
         Ok(dns_name_at(file, at)?.end)
     }

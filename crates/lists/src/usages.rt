@@ -37,6 +37,7 @@ pub fn usages_at(file: &[u8], at: usize) -> Reading<Run>
 }
 
 // The usage at a place: a bad value above the last, judged when it is read.
+#[tactic(auto, unfolding(crate::specs::Lists::usage_p))]
 pub fn usage_at(file: &[u8], at: usize) -> Reading<usize>
     ensures { read result ≡ usage_p file.now at }
 {

@@ -27,22 +27,19 @@ impl Thing for Attribute {
 
     ghost thing_p = { attr_p };
 
+    #[tactic(auto, using(crate::proofs::Attributes::attr_by_spans))]
     fn past(file: &[u8], at: usize) -> Result<usize, Fault> {
         Ok(attribute_at(file, at)?.value.end)
     }
 }
 
 // The attribute at a place; the place past it is the end of its value.
+#[tactic(auto, unfolding(crate::specs::Answers::spans_p))]
 pub fn attribute_at(file: &[u8], at: usize) -> Result<Attribute, Fault>
     ensures { attributed result
         ≡ spans_p Attribute.OID_LEAST Attribute.OID_MOST Attribute.VALUE_LEAST Attribute.VALUE_MOST file.now at }
 {
     let oid = string_at(file, at, Attribute::OID_LEAST, Attribute::OID_MOST)?;
-    let value = string_at(
-        file,
-        oid.end,
-        Attribute::VALUE_LEAST,
-        Attribute::VALUE_MOST,
-    )?;
+    let value = string_at(file, oid.end, Attribute::VALUE_LEAST, Attribute::VALUE_MOST)?;
     Ok(Attribute { oid, value })
 }

@@ -21,6 +21,7 @@ impl Thing for Name {
 
     ghost thing_p = { name_p };
 
+    #[tactic(auto, unfolding(crate::specs::Names::name_p, fields::specs::Fields::counted_p))]
     fn past(file: &[u8], at: usize) -> Result<usize, Fault> {
         name_begins(file, at)?.past::<Rdn>(file)
     }

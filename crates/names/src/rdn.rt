@@ -21,6 +21,7 @@ impl Thing for Rdn {
 
     ghost thing_p = { rdn_p };
 
+    #[tactic(auto, unfolding(crate::specs::Names::rdn_p, fields::specs::Fields::counted_p))]
     fn past(file: &[u8], at: usize) -> Result<usize, Fault> {
         rdn_begins(file, at)?.past::<Attribute>(file)
     }
