@@ -1,8 +1,11 @@
 // The bundle: its certificates, the leaf first.
 ghost use Rattle.std.specs.Prelude.{◌≡◌};
-ghost use Rattle.certificates.specs.Certificates.{record_of};
+ghost use Rattle.fields.specs.Answers.{read};
+ghost use Rattle.certificates.specs.Certificates.{bundle_p, record_of};
 
 use crate::Certificates;
+use crate::certificates::certificates_at;
+use fields::Reading;
 use places::BundlePlace;
 use record::Record;
 
@@ -15,4 +18,11 @@ impl Bundle {
     {
         self.nth(place.0)
     }
+}
+
+// The bundle at a place.
+pub fn bundle_at(file: &[u8], at: usize) -> Reading<Bundle>
+    ensures { read result ≡ bundle_p file.now at }
+{
+    certificates_at(file, at)
 }

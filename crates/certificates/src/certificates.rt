@@ -1,7 +1,6 @@
 // A list of no more than so many certificates.
-ghost use Rattle.std.specs.Prelude.{◌≡◌, replicate};
+ghost use Rattle.std.specs.Prelude.{◌≡◌};
 ghost use Rattle.fields.specs.Answers.{read};
-ghost use Rattle.record.specs.Fresh.{fresh};
 ghost use Rattle.certificates.specs.Certificates.{certificates_p, record_of, size_of};
 
 use fields::{Reading, count_at};
@@ -16,21 +15,10 @@ pub struct Certificates<const MOST: usize> {
 }
 
 impl<const MOST: usize> Certificates<MOST> {
-    pub const LEAST: usize = 0;
-
     pub const MOST: usize = MOST;
 
-    // No certificates.
-    pub fn new() -> Self
-        ensures { (result.count ≡ 0) × (result.records ≡ replicate MOST fresh) }
-    {
-        Certificates {
-            records: [Record::new(); MOST],
-            count: 0,
-        }
-    }
-
     // How many there are: the count, but no more than there is room for.
+    #[tactic(auto, unfolding(crate::specs::Certificates::size_of))]
     pub fn size(self) -> u8
         ensures { result ≡ size_of MOST self.entry.count }
     {
@@ -38,6 +26,7 @@ impl<const MOST: usize> Certificates<MOST> {
     }
 
     // The record at a place; the one of nothing but zeros where there is no such place.
+    #[tactic(auto, using(crate::proofs::Records::record_none, crate::proofs::Records::record_outside, crate::proofs::Records::record_there))]
     pub fn nth(&self, place: u8) -> Record
         ensures { result ≡ record_of self.now.count self.now.records place }
     {
@@ -49,7 +38,7 @@ impl<const MOST: usize> Certificates<MOST> {
 }
 
 // The certificates at a place.
-pub fn certificates_at<const MOST: usize>(file: &[u8], at: usize) -> Reading<Certificates<MOST>>
+pub(crate) fn certificates_at<const MOST: usize>(file: &[u8], at: usize) -> Reading<Certificates<MOST>>
     ensures { read result ≡ certificates_p MOST file.now at }
 {
     let (count, first) = count_at(file, at, 0, MOST)?;

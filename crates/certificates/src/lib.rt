@@ -6,6 +6,6 @@ mod bundle;
 mod certificates;
 mod roots;
 
-pub use bundle::Bundle;
-pub use certificates::{Certificates, certificates_at};
-pub use roots::Roots;
+pub use bundle::{Bundle, bundle_at};
+pub use certificates::Certificates;
+pub use roots::{Roots, roots_at};

@@ -1,8 +1,11 @@
 // The roots.
 ghost use Rattle.std.specs.Prelude.{◌≡◌};
-ghost use Rattle.certificates.specs.Certificates.{record_of};
+ghost use Rattle.fields.specs.Answers.{read};
+ghost use Rattle.certificates.specs.Certificates.{roots_p, record_of};
 
 use crate::Certificates;
+use crate::certificates::certificates_at;
+use fields::Reading;
 use places::RootPlace;
 use record::Record;
 
@@ -15,4 +18,11 @@ impl Roots {
     {
         self.nth(place.0)
     }
+}
+
+// The roots at a place.
+pub fn roots_at(file: &[u8], at: usize) -> Reading<Roots>
+    ensures { read result ≡ roots_p file.now at }
+{
+    certificates_at(file, at)
 }

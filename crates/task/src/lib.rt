@@ -35,6 +35,7 @@ impl Task {
 }
 
 // The task at a place.
+#[tactic(auto, unfolding(crate::specs::Placed::task_p))]
 pub fn task_at(file: &[u8], at: usize) -> Reading<Task>
     ensures { read result ≡ task_p file.now at }
 {
@@ -50,6 +51,7 @@ pub fn task_at(file: &[u8], at: usize) -> Reading<Task>
 }
 
 // The task's count, then now and budget.
+#[tactic(auto, unfolding(crate::specs::Placed::times_p))]
 fn times_at(file: &[u8], at: usize) -> Reading<(u64, u64)>
     ensures { read result ≡ times_p file.now at }
 {

@@ -1,4 +1,3 @@
-pub mod Columns
 pub mod Forward
 pub mod Pass
 pub mod Pinned

@@ -1,10 +1,14 @@
--- Verdicts judged in one pass over their bytes: the loop of `any_above_yes` (`seen_next`, `seen_ends`), where n verdicts end
--- (`rows_judged`), and one law for each answer of `verdict_rows` (`rows_bad`, `rows_cut`, `rows-got`). A verdict: specs/Verdicts.antt; the
+-- Verdicts judged in one pass over their bytes: what `any_above_yes` folds (`folded`), where n verdicts end
+-- (`rows_judged`), and one law for each answer of `verdicts_past` (`rows_bad`, `rows_cut`, `rows-got`). A verdict: specs/Verdicts.antt; the
 -- pass: specs/Parts.antt.
 use Prim.Native.Nat.{ℕ, zero, suc, ◌+◌, ◌-◌, ◌<◌, ◌≤◌}
-use mathlib.Core.Path.{◌≡◌, refl, sym, ◌∙◌}
+use mathlib.Core.Path.{◌≡◌, refl, sym, ap, ◌∙◌}
 use mathlib.Core.Bool.{Bool, true, false, cond, ◌||◌, or-false, or_assoc, false≢true}
 use mathlib.Core.List.{List, [], ◌∷◌}
+use mathlib.Core.Logic.{inl, inr}
+use Rattle.std.specs.Option.{unwrap_or}
+use Rattle.std.specs.Prelude.{Option, None, Some}
+use Rattle.std.specs.List.{fold, PartBy}
 use native.Mathlib.Nat.{add-zero}
 use native.Mathlib.Numerals.{add-one}
 use native.Mathlib.Omega.{arith}
@@ -21,18 +25,14 @@ use Rattle.verdicts.specs.Parts.{any_above_yes}
 
 -- ---- the pass
 
-module _ (l : List ℕ) where
-  -- whether a byte is above yes, by the first i bytes and the others: the loop's invariant
-  abbrev pub Seen : Bool → ℕ → Type 0
-  Seen bad i = any_above_yes l ≡ (bad || any_above_yes (drop i l))
+folded_from : (bad : Bool) (l : List ℕ) → fold (λ bad b. bad || ltb 1 b) bad l ≡ (bad || any_above_yes l)
+unfolding any_above_yes
+folded_from bad [] = sym (or-false bad)
+folded_from bad (b ∷ l) = folded_from (bad || ltb 1 b) l ∙ or_assoc bad _ _
 
-  pub seen_next : (bad : Bool) (i : ℕ) → Seen bad i → i < length l → Seen (bad || ltb 1 (get_or l i 0)) (i + 1)
-  unfolding any_above_yes
-  seen_next bad i t h = t ∙ rw (add-one, drop-cons l i 0) (sym (or_assoc bad _ _))
-
-  pub seen_ends : (bad : Bool) (i : ℕ) → Seen bad i → length l ≤ i → bad ≡ any_above_yes l
-  unfolding any_above_yes
-  seen_ends bad i t h = sym (t ∙ rw (drop_of_length-le l h) (or-false bad))
+-- the pass keeps whether a byte was above yes so far
+pub folded : (l : List ℕ) → fold (λ bad b. bad || ltb 1 b) false l ≡ any_above_yes l
+folded l = folded_from false l
 
 -- ---- n verdicts from a place on
 
@@ -81,37 +81,21 @@ module _ (s : List ℕ) where
         by_tests true false t b rest =
             first_good n at (ltb-true _ _ t) (bytes at) (ltb-false _ _ b) (rest (omega (arith, ltb-true)))
 
--- ---- the answers of `verdict_rows`
+-- ---- the answers of `verdicts_past`
 
--- a byte above yes among fewer
-any-more : (l : List ℕ) (m n : ℕ) → m ≤ n → any_above_yes (take m l) ≡ true → any_above_yes (take n l) ≡ true
-unfolding any_above_yes
-any-more l zero n h e = absurd (false≢true e)
-any-more l (suc m) zero h e = absurd (omega arith)
-any-more [] (suc m) (suc n) h e = e
-any-more (b ∷ l) (suc m) (suc n) h e = by_byte (ltb 1 b) e (any-more l m n (omega arith))
-  where
-    by_byte : (t : Bool) → t || any_above_yes (take m l) ≡ true → (any_above_yes (take m l) ≡ true → any_above_yes (take n l) ≡ true)
-        → t || any_above_yes (take n l) ≡ true
-    by_byte true e k = refl
-    by_byte false e k = k e
+-- the bytes of a file, and n verdicts from a place on, or as many as are there
+module _ (s : List ℕ) (bytes : (i : ℕ) → get_or s i 0 < 256) (first n : ℕ) where
+  abbrev pub front : List ℕ
+  front = take n (take (length s - first) (drop first s))
 
--- the bytes of a file, n verdicts from a place on, and how many of them are there and were judged
-module _ (s : List ℕ) (bytes : (i : ℕ) → get_or s i 0 < 256) (first there n : ℕ) where
-  slice_long : first + there - first ≡ there
-  slice_long = omega arith
+  front_is : front ≡ take n (drop first s)
+  front_is = ap (take n) (take_all (length s - first) (drop first s) (simp length-drop (omega arith)))
 
-  pub rows_bad : first ≤ length s → there ≤ n → any_above_yes (take (first + there - first) (drop first s)) ≡ true
-      → stop 8 ≡ passing (many verdict_p n s first)
-  rows_bad h few e = sym (rows_judged s bytes n first h ∙ rw (any-more (drop first s) there n few (rw slice_long at e)))
+  pub rows_bad : first ≤ length s → any_above_yes front ≡ true → stop 8 ≡ passing (many verdict_p n s first)
+  rows_bad h e = sym (rows_judged s bytes n first h ∙ rw (rw front_is at e))
 
-  pub rows_cut : first + there ≡ length s → there < n → any_above_yes (take (first + there - first) (drop first s)) ≡ false
-      → stop 6 ≡ passing (many verdict_p n s first)
-  rows_cut h few e =
-      let all : (m : ℕ) → there ≤ m → take m (drop first s) ≡ drop first s = λ m l. take_all m _ (simp length-drop (omega arith)) in
-      let judged = rw (slice_long, all there (omega arith)) at e in
-      sym (rows_judged s bytes n first (omega arith) ∙ rw (all n (omega arith), judged, lt-leb (first + n) (length s) (omega arith)))
+  pub rows_cut : first ≤ length s → length s < first + n → any_above_yes front ≡ false → stop 6 ≡ passing (many verdict_p n s first)
+  rows_cut h few e = sym (rows_judged s bytes n first h ∙ rw (rw front_is at e, lt-leb (first + n) (length s) few))
 
-  pub rows-got : first + there ≤ length s → there ≡ n → any_above_yes (take (first + there - first) (drop first s)) ≡ false
-      → got tt (first + there) ≡ passing (many verdict_p n s first)
-  rows-got h all e = sym (rows_judged s bytes n first (omega arith) ∙ rw (← all, rw slice_long at e, le-leb (first + there) (length s) h))
+  pub rows-got : first + n ≤ length s → any_above_yes front ≡ false → got tt (first + n) ≡ passing (many verdict_p n s first)
+  rows-got all e = sym (rows_judged s bytes n first (omega arith) ∙ rw (rw front_is at e, le-leb (first + n) (length s) all))

@@ -1,6 +1,5 @@
--- The verdicts and their count, which must be the product of issuers and subjects: how large it can be (`few`), where the verdicts begin
--- (`begins_within`), and one law for each answer of `verdicts_after` where the bundle ends (`uncounted`, `miscounted`, `all_read`). Where
--- the verdicts stand: specs/Grid.antt; their bytes judged: Pass.antt.
+-- The verdicts' count, which must be the product of issuers and subjects: how large it can be (`few`), and that the verdicts begin within
+-- the file (`begins_within`), for `verdicts_at`. Where the verdicts stand: specs/Grid.antt; their bytes judged: Pass.antt.
 use Prim.Native.Nat.{ℕ, ◌+◌, ◌*◌, ◌<◌, ◌≤◌}
 use mathlib.Core.Path.{◌≡◌, sym, ◌∙◌}
 use mathlib.Core.List.{List}
@@ -28,18 +27,3 @@ begins_within s at n e h =
     let judged = judged_got (leb (at + 2) (length s)) _ 6 bytes.first in
     let within = got-is (λ _ e. e ≤ length s) judged.1 (leb-true _ _ judged.0) in
     got-is (λ _ e. e ≤ length s) bytes.next within
-
-module _ (roots bundle : ℕ) (s : List ℕ) (at : ℕ) where
-  pub uncounted : (r : ℕ) → big_p 2 s at ≡ stop r → grid_p roots bundle s at ≡ stop r
-  unfolding grid_p
-  uncounted r h = rw h
-
-  module _ (n e asked : ℕ) (h : big_p 2 s at ≡ got n e) (a : asked ≡ (roots + bundle) * bundle) where
-    pub miscounted : (n ≡ asked → ⊥) → grid_p roots bundle s at ≡ stop 7
-    unfolding grid_p
-    miscounted d = rw (h, ne_eqb n ((roots + bundle) * bundle) (λ q. d (q ∙ sym a)))
-
-    pub all_read : n ≡ asked
-        → after (many verdict_p asked s e) (λ _ f. got (record { roots = roots; bundle = bundle; first = e }) f) ≡ grid_p roots bundle s at
-    unfolding grid_p
-    all_read q = rw (h, eq-eqb n ((roots + bundle) * bundle) (q ∙ a), q)

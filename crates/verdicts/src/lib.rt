@@ -2,7 +2,7 @@
 // They are read where the bundle ends; what certificates stand at these places is left to the crates above.
 #![tactic(auto)]
 
-ghost use Rattle.std.specs.Prelude.{◌≡◌, ◌+◌, ◌*◌, ◌≤◌, length};
+ghost use Rattle.std.specs.Prelude.{◌≡◌, ◌+◌, ◌*◌, ◌≤◌, length, take};
 ghost use Rattle.fields.specs.Fields.{many};
 ghost use Rattle.fields.specs.Answers.{read, passed, passing};
 ghost use Rattle.verdicts.specs.Verdicts.{verdict_p};
@@ -24,6 +24,7 @@ impl Verdicts {
     pub const YES: usize = 1;
 
     // How many verdicts a file must have.
+    #[tactic(auto, using(crate::proofs::Product::few))]
     pub fn asked(roots: u8, bundle: u8) -> usize
         ensures { result ≡ (roots + bundle) * bundle }
     {
@@ -31,6 +32,7 @@ impl Verdicts {
     }
 
     // A root signed a certificate of the bundle. False if either place doesn't exist.
+    #[tactic(auto, unfolding(crate::specs::Grid::root_signed))]
     pub fn root_signed(self, file: &[u8], issuer: RootPlace, subject: BundlePlace) -> bool
         ensures { result ≡ root_signed self file.now issuer.0 subject.0 }
     {
@@ -41,6 +43,7 @@ impl Verdicts {
     }
 
     // A certificate of the bundle signed another, or itself. False if either place doesn't exist.
+    #[tactic(auto, unfolding(crate::specs::Grid::bundle_signed))]
     pub fn bundle_signed(self, file: &[u8], issuer: BundlePlace, subject: BundlePlace) -> bool
         ensures { result ≡ bundle_signed self file.now issuer.0 subject.0 }
     {
@@ -57,6 +60,7 @@ impl Verdicts {
 }
 
 // A row's verdict in a column.
+#[tactic(auto, using(crate::proofs::Product::few), unfolding(crate::specs::Grid::signed_at))]
 fn signed_at(verdicts: Verdicts, file: &[u8], row: usize, column: usize) -> bool
     requires { row ≤ 510 }
     ensures { result ≡ signed_at verdicts file.now row column }
@@ -78,6 +82,7 @@ fn signed_at(verdicts: Verdicts, file: &[u8], row: usize, column: usize) -> bool
 }
 
 // The verdicts on so many roots and so large a bundle.
+#[tactic(auto, using(crate::proofs::Product::begins_within), unfolding(crate::specs::Grid::grid_p))]
 pub fn verdicts_at(file: &[u8], at: usize, roots: u8, bundle: u8) -> Reading<Verdicts>
     ensures { read result ≡ grid_p roots bundle file.now at }
 {
@@ -101,16 +106,20 @@ fn verdicts_past(file: &[u8], first: usize, n: usize) -> Result<usize, Fault>
     ensures { passed result ≡ passing (many verdict_p n file.now first) }
 {
     let there = &file[first..];
-    if n <= there.len() {
-        if any_above_yes(&there[..n]) {
-            return Err(Fault::BadValue);
-        }
-        return Ok(first + n);
-    }
-    if any_above_yes(there) {
+    if any_above_yes(front(there, n)) {
         return Err(Fault::BadValue);
     }
-    Err(Fault::CutShort)
+    if there.len() < n {
+        return Err(Fault::CutShort);
+    }
+    Ok(first + n)
+}
+
+// The first n bytes, or all of them where there are fewer.
+fn front(bytes: &[u8], n: usize) -> &[u8]
+    ensures { result.now ≡ take n bytes.now }
+{
+    bytes.get(..n).unwrap_or(bytes)
 }
 
 // Whether a byte is more than a yes. It does not stop at one, so that the compiler can judge many bytes at once.

@@ -1,0 +1,4 @@
+pub mod Pinned
+pub mod Records
+pub mod Standing
+pub mod Two

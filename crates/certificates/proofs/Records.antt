@@ -1,0 +1,81 @@
+-- Records in so many places, for any number of places: a list by its count, one law for each answer of `certificates_at` (`uncounted`,
+-- `list_stops`, `list_ends`), and the count within its bounds (`counted_few`, `counted_byte`); how many records there are (`size-within`);
+-- and the record at a place by the tests of its place (`record_none`, `record_outside`, `record_there`, `record_within`). The loop's turns:
+-- fields/proofs/Filling.antt.
+use Prim.Native.Nat.{ℕ, ◌<◌, ◌≤◌}
+use mathlib.Core.Path.{◌≡◌, refl}
+use mathlib.Core.Bool.{Bool, true, false, cond}
+use mathlib.Core.List.{List}
+use native.Mathlib.Omega.{arith}
+use lib.Dec.{leb}
+use lib.ListN.{length, get_or, get_or-eq_default}
+use borrow.Author.Tests.{lt-ltb, le-ltb, leb-true, leb-false}
+use Rattle.fields.specs.Fields.{got, stop, many, count_p, counted_p}
+use Rattle.fields.proofs.Counts.{count_read}
+use Rattle.fields.proofs.Many.{many-length}
+use Rattle.fields.proofs.Filling.{Filling, filling_ends}
+use Rattle.record.specs.Record.{record_p}
+use Rattle.record.specs.Fresh.{fresh}
+use Rattle.record.specs.declared.Record.{Record}
+use Rattle.certificates.specs.Certificates.{filled, certificates_p, size_of, record_of}
+
+-- ---- a list by its count
+
+module _ (most : ℕ) (s : List ℕ) (at : ℕ) where
+  pub uncounted : (r : ℕ) → count_p 0 most s at ≡ stop r → certificates_p most s at ≡ stop r
+  unfolding certificates_p counted_p
+  uncounted r h = rw h
+
+  module _ (n first : ℕ) (h : count_p 0 most s at ≡ got n first) where
+    pub counted_few : n ≤ most
+    counted_few = (count_read 0 most s at n first h).few
+
+    -- a count that was read is a byte
+    pub counted_byte : get_or s at 0 < 256 → n < 256
+    counted_byte byte = omega (arith, (count_read 0 most s at n first h).is)
+
+    pub list_stops : (r : ℕ) → many record_p n s first ≡ stop r → certificates_p most s at ≡ stop r
+    unfolding certificates_p counted_p
+    list_stops r k = rw (h, k)
+
+    pub list_ends : (places : List Record) (next i : ℕ) → Filling record_p s most fresh first n places next i → n ≤ i
+        → got (record { count = n; records = places }) next ≡ certificates_p most s at
+    unfolding certificates_p counted_p filled
+    list_ends places next i f l =
+        let t = filling_ends record_p s most fresh first n places next i f l in
+        let long : length t.front ≡ n = many-length record_p s n first t.front next t.read in
+        rw (h, t.read, t.full, long)
+
+-- ---- by place
+
+module _ (most count : ℕ) where
+  pub size-within : size_of most count ≤ most
+  unfolding size_of
+  size-within = by_test (leb count most) refl
+    where
+      by_test : (b : Bool) → leb count most ≡ b → cond b count most ≤ most
+      by_test true h = leb-true count most h
+      by_test false h = omega arith
+
+module _ (count : ℕ) (records : List Record) (place : ℕ) where
+  pub record_none : count ≤ place → fresh ≡ record_of count records place
+  unfolding record_of
+  record_none h = rw (le-ltb place count h)
+
+  pub record_outside : (most : ℕ) → length records ≡ most → place < count → most ≤ place → fresh ≡ record_of count records place
+  unfolding record_of
+  record_outside most long h o =
+      let past : length records ≤ place = omega arith in
+      rw (lt-ltb place count h, get_or-eq_default records fresh past)
+
+  pub record_there : place < count → get_or records place fresh ≡ record_of count records place
+  unfolding record_of
+  record_there h = rw (lt-ltb place count h)
+
+  pub record_within : (most : ℕ) → place < size_of most count → get_or records place fresh ≡ record_of count records place
+  unfolding size_of
+  record_within most = by_test (leb count most) refl
+    where
+      by_test : (b : Bool) → leb count most ≡ b → place < cond b count most → get_or records place fresh ≡ record_of count records place
+      by_test true t h = record_there h
+      by_test false t h = let more = leb-false count most t in record_there (omega arith)
