@@ -1,8 +1,6 @@
-pub mod Chain
 pub mod Forward
 pub mod Frauds
 pub mod LeftToRight
-pub mod Nothing
 pub mod Pinned
 pub mod Sections
 pub mod Signed

@@ -13,9 +13,8 @@ use Rattle.places.specs.Limits.{roots_most, bundle_most}
 use Rattle.fields.specs.Fields.{got, stop, after, whole}
 use Rattle.fields.proofs.After.{after-got, judged_got, got-is}
 use Rattle.certificates.specs.Certificates.{roots_p, bundle_p}
-use Rattle.certificates.specs.declared.roots.Roots.{Roots}
-use Rattle.certificates.specs.declared.bundle.Bundle.{Bundle}
-use Rattle.certificates.proofs.Standing.{RecordsRead, roots_read_lem, bundle_read}
+use Rattle.certificates.specs.declared.certificates.Certificates.{Certificates}
+use Rattle.certificates.proofs.Standing.{RecordsRead, certificates_read}
 use Rattle.verdicts.specs.Grid.{grid_p}
 use Rattle.verdicts.specs.declared.Verdicts.{Verdicts}
 use Rattle.verdicts.proofs.Rows.{RowsRead, rows_read}
@@ -38,7 +37,7 @@ pub record CardRead (s : List ℕ) (c : Card) (e : ℕ) : Type 0 where
 
 module _ (s : List ℕ) (few : length s ≤ file_most) where
   -- with the sections before it read, the task makes a card
-  task_read : (r : Roots) (b : Bundle) (v : Verdicts) (f g h : ℕ)
+  task_read : (r : Certificates roots_most) (b : Certificates bundle_most) (v : Verdicts) (f g h : ℕ)
       → RecordsRead roots_most s r.count r.records f → RecordsRead bundle_most s b.count b.records g → RowsRead r.count b.count s v h
       → (c : Card) (e : ℕ) → after (task_p s h) (λ t i. got (record { roots = r; bundle = b; verdicts = v; task = t }) i) ≡ got c e
       → length s ≤ e → CardRead s c e
@@ -67,8 +66,8 @@ module _ (s : List ℕ) (few : length s ≤ file_most) where
       let bundle = after-got (bundle_p s roots.place) _ roots.next in
       let verdicts = after-got (grid_p roots.value.count bundle.value.count s bundle.place) _ bundle.next in
       task_read roots.value bundle.value verdicts.value roots.place bundle.place verdicts.place
-      (roots_read_lem s edition.place roots.value roots.place roots.first)
-      (bundle_read s roots.place bundle.value bundle.place bundle.first)
+      (certificates_read roots_most s edition.place roots.value roots.place roots.first)
+      (certificates_read bundle_most s roots.place bundle.value bundle.place bundle.first)
       (rows_read roots.value.count bundle.value.count s bundle.place verdicts.value verdicts.place verdicts.first) c e
       verdicts.next
 

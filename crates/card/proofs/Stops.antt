@@ -1,5 +1,5 @@
 -- Any bytes at all get their content or one of 4 to 9: a file that can't be read stops at one of these (`file_stops`), so that what is
--- answered as read was read (`answered_read`, for question/proofs/Posing.antt). Which bytes a fault hangs on: LeftToRight.antt.
+-- answered as read was read (`answered_read`), and a fault that is answered is where reading stopped (`answered_stopped`). Which bytes a fault hangs on: LeftToRight.antt.
 use Prim.Native.Nat.{ℕ, zero, suc, ◌+◌, ◌*◌, ◌≤◌}
 use mathlib.Core.Path.{◌≡◌, refl, sym, ap, ◌∙◌}
 use mathlib.Core.Bool.{Bool, true, false, cond, ◌&&◌}
@@ -7,27 +7,28 @@ use mathlib.Core.List.{List}
 use native.Mathlib.Omega.{arith}
 use lib.Dec.{eqb, leb, ltb}
 use lib.ListN.{length, get_or}
+use Rattle.std.specs.Prelude.{Result, Ok, Err}
 use Rattle.places.specs.Limits.{roots_most, bundle_most}
 use Rattle.fields.specs.Fields.{Parsed, got, stop, after, count_p, bytes_p, string_p, big_p, many, counted_p, whole, byte_p}
 use Rattle.fields.specs.Spans.{span_p}
+use Rattle.fields.specs.Runs.{run_p}
+use Rattle.fields.specs.Answers.{number, handed, numbered}
+use Rattle.fields.specs.declared.fault.Fault.{Fault}
 use Rattle.names.specs.Names.{oid_most, value_most, rdn_most, name_most, attr_p, rdn_p, name_p}
 use Rattle.lists.specs.Lists.{usage_most, usages_most, dns_name_most, dns_names_most, usage_p, dns_name_p}
-use Rattle.lists.specs.Runs.{usages_p, dns_names_p, run_p}
+use Rattle.lists.specs.Runs.{usages_p, dns_names_p}
 use Rattle.extensions.specs.Extensions.{span_if_p, key_ids_p, path_length_p, extensions_p}
 use Rattle.extensions.specs.Flags.{key_id_most, serial_most, flag}
 use Rattle.record.specs.Record.{opening_p, dates_p, head_p, strings_p, names_p, record_p}
 use Rattle.record.specs.Certificate.{algorithm_most, paired, flags_p}
-use Rattle.certificates.specs.Certificates.{roots_p, bundle_p}
+use Rattle.certificates.specs.Certificates.{certificates_p, roots_p, bundle_p}
 use Rattle.verdicts.specs.Verdicts.{verdict_p}
 use Rattle.verdicts.specs.Grid.{grid_p}
 use Rattle.task.specs.Task.{host_most, purpose_p}
 use Rattle.task.specs.Placed.{times_p, task_p}
 use Rattle.card.specs.Card.{card_p, file_p}
 use Rattle.card.specs.Content.{file_most, edition_p}
-use Rattle.card.specs.Answers.{number_of, read_as, answer}
 use Rattle.card.specs.declared.Card.{Card}
-use Rattle.card.specs.declared.Ended.TheVariants.{Read}
-use Rattle.card.specs.declared.Reading.{Reading}
 
 -- where reading stops, it is at one of 4 to 9
 pub record Stops {A : Type 0} (x : Parsed A) : Type 0 where
@@ -162,7 +163,7 @@ module _ (s : List ℕ) where
   unfolding dns_name_p
   dns_name at = string 1 dns_name_most at
 
-  listed : {A : Type 0} (most : ℕ) (p : List ℕ → ℕ → Parsed A) → ((at : ℕ) → Stops (p s at)) → (at : ℕ) → Stops (run_p most p s at)
+  listed : {A : Type 0} (most : ℕ) (p : List ℕ → ℕ → Parsed A) → ((at : ℕ) → Stops (p s at)) → (at : ℕ) → Stops (run_p 0 most p s at)
   unfolding run_p
   listed most p each at = then (count_p 0 most s at) (count 0 most at) (λ n e. then (many p n s e) (row p each n e) (λ _ f. goes _ _))
 
@@ -188,13 +189,9 @@ module _ (s : List ℕ) where
   unfolding edition_p
   edition at = then (byte_p s at) (byte at) (λ n e. judged (eqb n 1) (goes _ _) (stops 4 (omega arith) (omega arith)))
 
-  roots : (at : ℕ) → Stops (roots_p s at)
-  unfolding roots_p
-  roots at = then (counted_p 0 roots_most record_p s at) (counted record_p a_record 0 roots_most at) (λ l e. goes _ _)
-
-  bundle : (at : ℕ) → Stops (bundle_p s at)
-  unfolding bundle_p
-  bundle at = then (counted_p 0 bundle_most record_p s at) (counted record_p a_record 0 bundle_most at) (λ l e. goes _ _)
+  certificates : (most at : ℕ) → Stops (certificates_p most s at)
+  unfolding certificates_p
+  certificates most at = then (counted_p 0 most record_p s at) (counted record_p a_record 0 most at) (λ l e. goes _ _)
 
   verdict : (at : ℕ) → Stops (verdict_p s at)
   unfolding verdict_p
@@ -224,8 +221,8 @@ module _ (s : List ℕ) where
   unfolding card_p
   card at =
       then (edition_p s at) (edition at) (λ _ e.
-      then (roots_p s e) (roots e) (λ r f.
-      then (bundle_p s f) (bundle f) (λ b g.
+      then (roots_p s e) (certificates roots_most e) (λ r f.
+      then (bundle_p s f) (certificates bundle_most f) (λ b g.
       then (grid_p r.count b.count s g) (verdicts r.count b.count g) (λ v h.
       then (task_p s h) (task h) (λ t i. goes _ _)))))
 
@@ -236,21 +233,28 @@ module _ (s : List ℕ) where
       (then (card_p s 0) (card 0) (λ c e. judged (ltb e (length s)) (stops 9 (omega arith) (omega arith)) (goes _ _)))
       (stops 5 (omega arith) (omega arith))
 
--- ---- what is answered as read
+-- ---- what is answered
 
 -- a card was read from the file
 pub record WasRead (s : List ℕ) (c : Card) : Type 0 where
   pub end : ℕ
   pub is : file_p s ≡ got c end
 
-pub answered_read : (s : List ℕ) (r : Reading) → read_as r ≡ answer (file_p s) → r.ended ≡ Read → WasRead s r.card
-answered_read s r h o = by_file (file_p s) refl h
-  where
-    by_file : (x : Parsed Card) → file_p s ≡ x → read_as r ≡ answer x → WasRead s r.card
-    by_file (got c e) k t =
-        let d : c ≡ r.card = sym (ap (λ (p : ℕ × Card). p.1) t) in
-        record { end = e; is = k ∙ ap (λ (c : Card). got c e) d }
-    by_file (stop n) k t =
-        let z : 0 ≡ n = ap number_of (sym o) ∙ ap (λ (p : ℕ × Card). p.0) t in
-        let f = (file_stops s).at n k in
-        absurd (omega arith)
+module _ (s : List ℕ) (r : Result Card Fault) (says : numbered r ≡ handed (file_p s)) where
+  pub answered_read : (c : Card) → r ≡ Ok c → WasRead s c
+  answered_read c o = by_file (file_p s) refl
+    where
+      by_file : (x : Parsed Card) → file_p s ≡ x → WasRead s c
+      by_file (got d e) k =
+          let same : d ≡ c = cc (says, ap numbered o, ap handed k) in
+          record { end = e; is = k ∙ ap (λ (c : Card). got c e) same }
+      by_file (stop n) k = cc (says, ap numbered o, ap handed k)
+
+  pub answered_stopped : (f : Fault) → r ≡ Err f → file_p s ≡ stop (number f)
+  answered_stopped f o = by_file (file_p s) refl
+    where
+      by_file : (x : Parsed Card) → file_p s ≡ x → file_p s ≡ stop (number f)
+      by_file (got c e) k = cc (says, ap numbered o, ap handed k)
+      by_file (stop n) k =
+          let same : n ≡ number f = cc (says, ap numbered o, ap handed k) in
+          k ∙ ap stop same

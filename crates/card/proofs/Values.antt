@@ -17,10 +17,9 @@ use Rattle.record.specs.Parts.{certificate_of}
 use Rattle.record.specs.Record.{place_most, record_p}
 use Rattle.record.specs.declared.Record.{Record}
 use Rattle.record.proofs.Values.{certificate_by_record}
-use Rattle.certificates.specs.Certificates.{filled, roots_p, bundle_p}
-use Rattle.certificates.specs.declared.roots.Roots.{Roots}
-use Rattle.certificates.specs.declared.bundle.Bundle.{Bundle}
-use Rattle.certificates.proofs.Standing.{roots_read_lem, bundle_read}
+use Rattle.certificates.specs.Certificates.{filled, certificates_p, roots_p, bundle_p}
+use Rattle.certificates.specs.declared.certificates.Certificates.{Certificates}
+use Rattle.certificates.proofs.Standing.{certificates_read}
 use Rattle.verdicts.specs.Verdicts.{verdicts_p}
 use Rattle.verdicts.specs.Grid.{grid_p}
 use Rattle.verdicts.proofs.Values.{verdicts_of, grid_valued}
@@ -33,50 +32,32 @@ use Rattle.card.specs.declared.Card.{Card}
 use Rattle.card.proofs.Standing.{certificates_counted}
 
 module _ (s : List ℕ) (few : length s ≤ place_most) where
-  -- so many records, whatever is made of their count and their places
-  certificates_valued : (most : ℕ) {R : Type 0} (made : ℕ → List Record → R) (v : R → List Certificate)
-      → ((n : ℕ) (l : List Record) → v (made n l) ≡ certificates_of n l s)
-      → (at : ℕ)
-      → counted_p 0 most certificate_p s at ≡ valued v (after (counted_p 0 most record_p s at) (λ l e. got (made (length l) (filled most l)) e))
-  unfolding certificates_of filled
-  certificates_valued most made v is at =
+  abbrev listed : {most : ℕ} → Certificates most → List Certificate
+  listed c = certificates_of c.count c.records s
+
+  certificates_valued : (most at : ℕ) → counted_p 0 most certificate_p s at ≡ valued listed (certificates_p most s at)
+  unfolding certificates_p certificates_of filled
+  certificates_valued most at =
       counted_valued record_p certificate_p (λ r. certificate_of r s) s (certificate_by_record s few) 0 most at
       ∙ after_same (counted_p 0 most record_p s at) (λ l e.
-      ap (λ c. got c e) (sym (is (length l) (filled most l) ∙ ap (map (λ r. certificate_of r s)) (take-append_seam l _))))
+      ap (λ c. got c e) (sym (ap (map (λ r. certificate_of r s)) (take-append_seam l _))))
       ∙ sym (after-after (counted_p 0 most record_p s at) _ _)
 
-  abbrev roots_of : Roots → List Certificate
-  roots_of r = certificates_of r.count r.records s
+  as_many : (most at : ℕ) (c : Certificates most) (e : ℕ) → certificates_p most s at ≡ got c e → length (listed c) ≡ c.count
+  as_many most at c e h = certificates_counted most s _ _ _ (certificates_read most s at c e h)
 
-  abbrev bundle_of : Bundle → List Certificate
-  bundle_of b = certificates_of b.count b.records s
-
-  roots_valued : (at : ℕ) → counted_p 0 roots_most certificate_p s at ≡ valued roots_of (roots_p s at)
-  unfolding roots_p
-  roots_valued = certificates_valued roots_most (λ n l. record { count = n; records = l }) roots_of (λ n l. refl)
-
-  bundle_valued : (at : ℕ) → counted_p 0 bundle_most certificate_p s at ≡ valued bundle_of (bundle_p s at)
-  unfolding bundle_p
-  bundle_valued = certificates_valued bundle_most (λ n l. record { count = n; records = l }) bundle_of (λ n l. refl)
-
-  roots_as_many : (at : ℕ) (r : Roots) (e : ℕ) → roots_p s at ≡ got r e → length (roots_of r) ≡ r.count
-  roots_as_many at r e h = certificates_counted roots_most s _ _ _ (roots_read_lem s at r e h)
-
-  bundle_as_many : (at : ℕ) (b : Bundle) (e : ℕ) → bundle_p s at ≡ got b e → length (bundle_of b) ≡ b.count
-  bundle_as_many at b e h = certificates_counted bundle_most s _ _ _ (bundle_read s at b e h)
-
-  verdicts_valued : (a : ℕ) (r : Roots) (b : ℕ) (u : Bundle) (c : ℕ) → roots_p s a ≡ got r b → bundle_p s b ≡ got u c
-      → (at : ℕ) → verdicts_p (length (roots_of r)) (length (bundle_of u)) s at ≡ valued (verdicts_of s) (grid_p r.count u.count s at)
+  verdicts_valued : (a : ℕ) (r : Certificates roots_most) (b : ℕ) (u : Certificates bundle_most) (c : ℕ) → roots_p s a ≡ got r b → bundle_p s b ≡ got u c
+      → (at : ℕ) → verdicts_p (length (listed r)) (length (listed u)) s at ≡ valued (verdicts_of s) (grid_p r.count u.count s at)
   verdicts_valued a r b u c roots bundle at =
-      rw (roots_as_many a r b roots, bundle_as_many b u c bundle) (grid_valued r.count u.count s at)
+      rw (as_many roots_most a r b roots, as_many bundle_most b u c bundle) (grid_valued r.count u.count s at)
 
   sections_valued : (at : ℕ) → sections_p s at ≡ valued (λ c. content_of c s) (card_p s at)
   unfolding sections_p card_p content_of
   sections_valued at =
       after_same (edition_p s at) (λ _ a.
-      by_place (roots_p s a) roots_of _ (roots_valued a)
+      by_place (roots_p s a) listed _ (certificates_valued roots_most a)
       ∙ after-known (roots_p s a) (λ r b roots.
-      by_place (bundle_p s b) bundle_of _ (bundle_valued b)
+      by_place (bundle_p s b) listed _ (certificates_valued bundle_most b)
       ∙ after-known (bundle_p s b) (λ u c bundle.
       by_place (grid_p r.count u.count s c) (verdicts_of s) _ (verdicts_valued a r b u c roots bundle c)
       ∙ after_same (grid_p r.count u.count s c) (λ v d. task_valued s d _ ∙ sym (after-after (task_p s d) _ _))

@@ -9,7 +9,7 @@ ghost use Rattle.card.specs.Card.{card_p, file_p};
 ghost use Rattle.card.specs.Content.{edition_p};
 
 pub use certificates::{Bundle, Roots};
-use certificates::certificates_at;
+use certificates::{bundle_at, roots_at};
 use fields::{Fault, Reading, byte_at};
 pub use places::{BundlePlace, RootPlace};
 use task::task_at;
@@ -33,6 +33,7 @@ impl Card {
 }
 
 // A file's card, or the first fault from left to right, and then nothing of what was read before it.
+#[tactic(auto, unfolding(crate::specs::Card::file_p, fields::specs::Fields::whole))]
 pub fn read(file: &[u8]) -> Result<Card, Fault>
     ensures { numbered result ≡ handed (file_p file.now) }
 {
@@ -47,12 +48,13 @@ pub fn read(file: &[u8]) -> Result<Card, Fault>
 }
 
 // The sections at a place, in their order.
+#[tactic(auto, unfolding(crate::specs::Card::card_p))]
 fn card_at(file: &[u8], at: usize) -> Reading<Card>
     ensures { read result ≡ card_p file.now at }
 {
     let at = edition_past(file, at)?;
-    let (roots, at) = certificates_at(file, at)?;
-    let (bundle, at) = certificates_at(file, at)?;
+    let (roots, at) = roots_at(file, at)?;
+    let (bundle, at) = bundle_at(file, at)?;
     let (verdicts, at) = verdicts_at(file, at, roots.count, bundle.count)?;
     let (task, next) = task_at(file, at)?;
     let card = Card {
@@ -65,6 +67,7 @@ fn card_at(file: &[u8], at: usize) -> Reading<Card>
 }
 
 // The place past the edition.
+#[tactic(auto, unfolding(crate::specs::Content::edition_p))]
 fn edition_past(file: &[u8], at: usize) -> Result<usize, Fault>
     ensures { passed result ≡ passing (edition_p file.now at) }
 {

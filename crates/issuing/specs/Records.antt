@@ -76,7 +76,7 @@ unfoldable pub bundle_rows : List ℕ → Certificates bundle_most → Verdicts 
 bundle_rows s b v = listing bundle_most (size_of bundle_most b.count) (λ j. row_of (λ i. bundle_issued_at s b v i j) (size_of bundle_most b.count))
 
 -- a row for each subject: which roots issued it
-unfoldable pub root_rows : List ℕ → Roots → Certificates bundle_most → Verdicts → List ℕ
+unfoldable pub root_rows : List ℕ → Certificates roots_most → Certificates bundle_most → Verdicts → List ℕ
 root_rows s r b v =
     listing bundle_most (size_of bundle_most b.count) (λ j.
     row_of (λ i. root_issued_at s r v (record_of b.count b.records j) i j) (size_of roots_most r.count))

@@ -48,8 +48,8 @@ pub fn issuers_of(rows: [u64; BundlePlace::MOST]) -> u64
     ensures { result ≡ issuers_of rows }
 {
     let mut all: u64 = 0;
-    for row in rows.iter().rev() {
-        all = either(*row, all);
+    for row in rows.iter() {
+        all = either(all, *row);
     }
     all
 }

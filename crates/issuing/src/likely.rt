@@ -1,6 +1,7 @@
 // Likely issued: the names fit and the key identifiers do.
 ghost use Rattle.std.specs.Prelude.{◌≡◌};
-ghost use Rattle.issuing.specs.Records.{claim_of, fits_at, keys_fit_at};
+ghost use Rattle.keys.specs.Given.{given};
+ghost use Rattle.issuing.specs.Records.{claim_of, claimed, fits_at, keys_fit_at};
 
 use extensions::{Flags, has_flag};
 use fields::{Span, part};
@@ -46,9 +47,16 @@ fn keys_fit(file: &[u8], issuer: Record, claim: Claim) -> bool
     let strings = issuer.strings(file);
     let key_id = has_flag(flags, Flags::SUBJECT_KEY).then_some(own.subject);
     check_auth_key_id(
-        claim.key_id.map(|span| part(file, span)),
-        claim.serial.map(|span| part(file, span)),
-        key_id.map(|span| part(file, span)),
+        part_if(file, claim.key_id),
+        part_if(file, claim.serial),
+        part_if(file, key_id),
         part(file, strings.serial),
     )
+}
+
+// The bytes of a part that may be absent.
+fn part_if(file: &[u8], span: Option<Span>) -> Option<&[u8]>
+    ensures { given result ≡ claimed file.now span }
+{
+    Some(part(file, span?))
 }

@@ -1,0 +1,17 @@
+pub mod Abreast
+pub mod Alike
+pub mod Asked
+pub mod Compared
+pub mod Counts
+pub mod Dropped
+pub mod Frauds
+pub mod Itself
+pub mod Members
+pub mod Pinned
+pub mod Rests
+pub mod Rows
+pub mod Spans
+pub mod Single
+pub mod Standing
+pub mod Upstream
+pub mod Walks
