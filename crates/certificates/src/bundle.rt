@@ -12,6 +12,8 @@ use record::Record;
 pub type Bundle = Certificates<{ BundlePlace::MOST }>;
 
 impl Bundle {
+    pub const MOST: usize = BundlePlace::MOST;
+
     // The record of a certificate; the one of nothing but zeros where there is no such place.
     pub fn record(self, place: BundlePlace) -> Record
         ensures { result ≡ record_of self.count self.records place.0 }

@@ -15,8 +15,6 @@ pub struct Certificates<const MOST: usize> {
 }
 
 impl<const MOST: usize> Certificates<MOST> {
-    pub const MOST: usize = MOST;
-
     // How many there are: the count, but no more than there is room for.
     #[tactic(auto, unfolding(crate::specs::Certificates::size_of))]
     pub fn size(self) -> u8
@@ -38,7 +36,10 @@ impl<const MOST: usize> Certificates<MOST> {
 }
 
 // The certificates at a place.
-pub(crate) fn certificates_at<const MOST: usize>(file: &[u8], at: usize) -> Reading<Certificates<MOST>>
+pub(crate) fn certificates_at<const MOST: usize>(
+    file: &[u8],
+    at: usize,
+) -> Reading<Certificates<MOST>>
     ensures { read result ≡ certificates_p MOST file.now at }
 {
     let (count, first) = count_at(file, at, 0, MOST)?;

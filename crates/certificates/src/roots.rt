@@ -12,6 +12,8 @@ use record::Record;
 pub type Roots = Certificates<{ RootPlace::MOST }>;
 
 impl Roots {
+    pub const MOST: usize = RootPlace::MOST;
+
     // The record of a root; the one of nothing but zeros where there is no such root.
     pub fn record(self, place: RootPlace) -> Record
         ensures { result ≡ record_of self.count self.records place.0 }

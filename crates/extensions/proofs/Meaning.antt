@@ -33,7 +33,7 @@ option_read : (present : Bool) (most : ℕ) (s : List ℕ) (at : ℕ) (p : Span)
     → span_if_p present most s at ≡ got p e → present ≡ true → SpanRead 1 most s at p e
 unfolding span_if_p
 option_read true most s at p e h t = span_read 1 most s at p e h
-option_read false most s at p e h t = let z : ◌≡◌ {A = ℕ} 0 1 = cc in absurd (omega arith)
+option_read false most s at p e h t = cc
 
 key_ids_read : (flags : ℕ) (s : List ℕ) (at : ℕ) (k : KeyIds) (e : ℕ) → key_ids_p flags s at ≡ got k e → KeyIdsRead flags s at k e
 unfolding key_ids_p

@@ -2,7 +2,7 @@
 ghost use Rattle.std.specs.Prelude.{◌≡◌};
 ghost use Rattle.extensions.specs.Flags.{flag};
 
-// The flags byte of a record.
+// The flags byte of a record. Its flags are numbers, and no enum: `has_flag` promises an answer for every number.
 #[derive(Clone, Copy)]
 pub struct Flags {}
 
@@ -25,11 +25,9 @@ impl Flags {
 }
 
 // Whether a flag is set; no for 0, which is none.
+#[tactic(auto, unfolding(crate::specs::Flags::flag))]
 pub fn has_flag(flags: usize, one: usize) -> bool
     ensures { result ≡ flag one flags }
 {
-    if one == 0 {
-        return false;
-    }
-    flags / one % 2 == 1
+    one != 0 && flags / one % 2 == 1
 }

@@ -14,6 +14,7 @@ pub use flags::{Flags, has_flag};
 use lists::{dns_names_at, usages_at};
 
 // Key ids and the authority's serial; a part whose flag is not set stands nowhere.
+// Spans beside the flags, and no Option: `certified` of record/specs/Parts has a part wherever its flag is set, even if nothing can be read there.
 #[derive(Clone, Copy)]
 pub struct KeyIds {
     pub authority: Span,
@@ -27,8 +28,16 @@ impl KeyIds {
     pub const KEY_ID_MOST: usize = 64;
 
     pub const SERIAL_MOST: usize = 20;
+
+    // Of parts that are not there.
+    pub const NOWHERE: KeyIds = KeyIds {
+        authority: Span::NOWHERE,
+        authority_serial: Span::NOWHERE,
+        subject: Span::NOWHERE,
+    };
 }
 
+// A path length whose flag is not set is 0, and no Option, as with key ids.
 #[derive(Clone, Copy)]
 pub struct Extensions {
     pub key_ids: KeyIds,
@@ -37,7 +46,18 @@ pub struct Extensions {
     pub dns_names: Run,
 }
 
+impl Extensions {
+    // Of parts that are not there.
+    pub const NOWHERE: Extensions = Extensions {
+        key_ids: KeyIds::NOWHERE,
+        path_length: 0,
+        usages: Run { count: 0, first: 0 },
+        dns_names: Run { count: 0, first: 0 },
+    };
+}
+
 // The extensions at a place, of a record with such flags.
+#[tactic(auto, unfolding(crate::specs::Extensions::extensions_p))]
 pub fn extensions_at(file: &[u8], at: usize, flags: usize) -> Reading<Extensions>
     ensures { read result ≡ extensions_p flags file.now at }
 {
@@ -55,11 +75,18 @@ pub fn extensions_at(file: &[u8], at: usize, flags: usize) -> Reading<Extensions
 }
 
 // Authority key id, authority serial, subject key id, each by its flag.
+#[tactic(auto, unfolding(crate::specs::Extensions::key_ids_p))]
 pub fn key_ids_at(file: &[u8], at: usize, flags: usize) -> Reading<KeyIds>
     ensures { read result ≡ key_ids_p flags file.now at }
 {
     let (authority, at) = option_at(file, at, flags, Flags::AUTHORITY_KEY, KeyIds::KEY_ID_MOST)?;
-    let (authority_serial, at) = option_at(file, at, flags, Flags::AUTHORITY_SERIAL, KeyIds::SERIAL_MOST)?;
+    let (authority_serial, at) = option_at(
+        file,
+        at,
+        flags,
+        Flags::AUTHORITY_SERIAL,
+        KeyIds::SERIAL_MOST,
+    )?;
     let (subject, next) = option_at(file, at, flags, Flags::SUBJECT_KEY, KeyIds::KEY_ID_MOST)?;
     let key_ids = KeyIds {
         authority,
@@ -70,6 +97,7 @@ pub fn key_ids_at(file: &[u8], at: usize, flags: usize) -> Reading<KeyIds>
 }
 
 // The path length by its flag; 0 where there is none.
+#[tactic(auto, unfolding(crate::specs::Extensions::path_length_p))]
 fn path_length_at(file: &[u8], at: usize, flags: usize) -> Reading<usize>
     ensures { read result ≡ path_length_p flags file.now at }
 {
@@ -80,6 +108,7 @@ fn path_length_at(file: &[u8], at: usize, flags: usize) -> Reading<usize>
 }
 
 // A string of at least one byte where its flag is set; nothing is read where it is not.
+#[tactic(auto, unfolding(crate::specs::Extensions::span_if_p))]
 fn option_at(file: &[u8], at: usize, flags: usize, one: usize, most: usize) -> Reading<Span>
     ensures { read result ≡ span_if_p (flag one flags) most file.now at }
 {

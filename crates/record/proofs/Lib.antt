@@ -1,6 +1,4 @@
 pub mod Onward
-pub mod Heads
-pub mod Flags
 pub mod Forward
 pub mod Frauds
 pub mod Meaning

@@ -16,7 +16,8 @@ use Rattle.fields.proofs.Counts.{byte_few, count_read}
 use Rattle.fields.proofs.Strings.{SpanRead, span_read}
 use Rattle.names.specs.Names.{Attr, name_p, name_most}
 use Rattle.lists.specs.Lists.{usage_p, dns_name_p, usages_most}
-use Rattle.lists.specs.Runs.{usages_p, run_p}
+use Rattle.fields.specs.Runs.{run_p}
+use Rattle.lists.specs.Runs.{usages_p}
 use Rattle.extensions.specs.Extensions.{key_ids_p, path_length_p, extensions_p}
 use Rattle.extensions.specs.Flags.{serial_most}
 use Rattle.extensions.specs.declared.Extensions.{Extensions}

@@ -12,7 +12,8 @@ use Rattle.fields.proofs.Counts.{count_read}
 use Rattle.fields.proofs.Strings.{span_read, string_by_span}
 use Rattle.names.specs.Names.{attr_p, rdn_p, name_p, oid_most, value_most, rdn_most, name_most}
 use Rattle.lists.specs.Lists.{usage_p, dns_name_p, usage_most, usages_most, dns_name_most, dns_names_most}
-use Rattle.lists.specs.Runs.{usages_p, dns_names_p, run_p}
+use Rattle.fields.specs.Runs.{run_p}
+use Rattle.lists.specs.Runs.{usages_p, dns_names_p}
 use Rattle.extensions.specs.Extensions.{span_if_p, key_ids_p, path_length_p, extensions_p}
 use Rattle.extensions.specs.Flags.{flag, key_id_most, serial_most}
 use Rattle.record.specs.Record.{strings_p}
@@ -29,7 +30,7 @@ module _ {A : Type 0} where
   onward-got n a e h = record { ends = λ b f q. let k : e ≡ f = cc in omega arith }
 
   onward-stop : (n r : ℕ) → Onward {A = A} n (stop r)
-  onward-stop n r = record { ends = λ b f q. let z : ◌≡◌ {A = ℕ} 0 1 = cc in absurd (omega arith) }
+  onward-stop n r = record { ends = λ b f q. cc }
 
   onward_judged : {n : ℕ} (b : Bool) (x : Parsed A) (r : ℕ) → Onward n x → Onward n (cond b x (stop r))
   onward_judged true x r h = h
@@ -68,7 +69,7 @@ module _ {A : Type 0} (p : List ℕ → ℕ → Parsed A) (s : List ℕ) (on : (
   unfolding counted_p
   counted_onward least most at = onward-after (count_p least most s at) _ (count-onward s least most at) (λ n e. many-onward n e)
 
-  run_onward : (most at : ℕ) → Onward at (run_p most p s at)
+  run_onward : (most at : ℕ) → Onward at (run_p 0 most p s at)
   unfolding run_p
   run_onward most at =
       onward-after (count_p 0 most s at) _ (no_earlier (count-onward s 0 most at)) (λ n e.

@@ -1,19 +1,12 @@
--- No two answers say the same: what `record_at` says pins its answer down (`recorded_pins`). What it says: specs/Answers.antt.
-use mathlib.Core.Path.{◌≡◌, refl, ap}
-use Rattle.fields.specs.Fields.{Parsed, got, stop}
-use Rattle.fields.proofs.Pinned.{pins, fault_of, fault_again}
-use Rattle.record.specs.Answers.{recorded}
+-- No two answers say the same: what `record_at` says pins its answer down (`recorded_pins`). What an answer says: `read` of
+-- fields/specs/Answers.antt; any reading: `read_pins` of fields/proofs/Pinned.antt.
+use Prim.Native.Nat.{ℕ}
+use mathlib.Core.Path.{◌≡◌}
+use Rattle.std.specs.Prelude.{Result}
+use Rattle.fields.specs.Answers.{read}
+use Rattle.fields.specs.declared.fault.Fault.{Fault}
+use Rattle.fields.proofs.Pinned.{read_pins}
 use Rattle.record.specs.declared.Record.{Record}
-use Rattle.record.specs.declared.RecordAt.{RecordAt}
-use Rattle.record.specs.declared.RecordAt.TheVariants.{Got, Stop}
 
-pub recorded_pins : (a b : RecordAt) → recorded a ≡ recorded b → a ≡ b
-recorded_pins = pins recorded back again
-  where
-    back : Parsed Record → RecordAt
-    back (got r e) = Got r e
-    back (stop r) = Stop (fault_of r)
-
-    again : (a : RecordAt) → back (recorded a) ≡ a
-    again (Got r e) = refl
-    again (Stop f) = ap Stop (fault_again f)
+pub recorded_pins : (a b : Result (Record × ℕ) Fault) → read a ≡ read b → a ≡ b
+recorded_pins = read_pins

@@ -2,7 +2,6 @@
 ghost use Rattle.std.specs.Prelude.{◌&&◌, not, ◌≡◌};
 ghost use Rattle.extensions.specs.Flags.{flag};
 ghost use Rattle.fields.specs.Answers.{read};
-ghost use Rattle.fields.specs.Fields.{got, after};
 ghost use Rattle.record.specs.Record.{opening_p, dates_p, head_p};
 
 use extensions::{Flags, has_flag};
@@ -17,6 +16,7 @@ pub struct Head {
     pub not_after: u64,
 }
 
+#[tactic(auto, unfolding(crate::specs::Record::head_p))]
 pub(crate) fn head_at(file: &[u8], at: usize) -> Reading<Head>
     ensures { read result ≡ head_p file.now at }
 {
@@ -31,25 +31,16 @@ pub(crate) fn head_at(file: &[u8], at: usize) -> Reading<Head>
     Ok((head, next))
 }
 
-// The flags, and the place past the head: of the dates, only that they are there.
-pub(crate) fn flags_past(file: &[u8], at: usize) -> Reading<usize>
-    ensures { read result ≡ after (head_p file.now at) (λ head e. got head.flags e) }
-{
-    let ((_, flags), at) = flags_at(file, at)?;
-    let (_, next) = dates_at(file, at)?;
-    Ok((flags, next))
-}
-
 // Any version; flags of which a path length's needs a CA's, and that to sign a key usage's, judged when they are read.
+#[tactic(auto, unfolding(crate::specs::Record::opening_p, crate::specs::Certificate::flags_p, crate::specs::Certificate::paired))]
 fn flags_at(file: &[u8], at: usize) -> Reading<(usize, usize)>
     ensures { read result ≡ opening_p file.now at }
 {
     let (version, at) = byte_at(file, at)?;
     let (flags, next) = byte_at(file, at)?;
-    if lacks(flags, Flags::PATH_LENGTH, Flags::CA) {
-        return Err(Fault::BadValue);
-    }
-    if lacks(flags, Flags::MAY_SIGN, Flags::KEY_USAGE) {
+    if lacks(flags, Flags::PATH_LENGTH, Flags::CA)
+        || lacks(flags, Flags::MAY_SIGN, Flags::KEY_USAGE)
+    {
         return Err(Fault::BadValue);
     }
     Ok(((version, flags), next))
@@ -62,6 +53,7 @@ fn lacks(flags: usize, one: usize, other: usize) -> bool
     has_flag(flags, one) && !has_flag(flags, other)
 }
 
+#[tactic(auto, unfolding(crate::specs::Record::dates_p))]
 fn dates_at(file: &[u8], at: usize) -> Reading<(u64, u64)>
     ensures { read result ≡ dates_p file.now at }
 {

@@ -10,20 +10,20 @@ mod strings;
 ghost use Rattle.std.specs.Prelude.{◌≡◌};
 ghost use Rattle.fields.specs.Answers.{read};
 ghost use Rattle.record.specs.Fresh.{fresh};
-ghost use Rattle.record.specs.Record.{placed, record_p};
-ghost use Rattle.record.specs.Parts.{head_of, strings_of, key_ids_of, extensions_of, issuer_span, subject_span};
+ghost use Rattle.record.specs.Record.{place_of, placed, record_p};
+ghost use Rattle.record.specs.Parts.{value_or, head_of, strings_of, key_ids_of, extensions_of, issuer_span, subject_span};
 
 use extensions::{Extensions, KeyIds, extensions_at, key_ids_at};
-use fields::{Reading, Run, Span};
+use fields::{Reading, Span};
 pub use head::Head;
-use head::{flags_past, head_at};
+use head::head_at;
 pub use parties::Names;
 use parties::names_at;
 pub use strings::Strings;
 use strings::strings_at;
 
 // A record that was read: where it starts, where its two names start, and where what is behind them starts.
-#[derive(Clone, Copy)]
+#[derive(Clone, Copy, Default)]
 pub struct Record {
     start: u16,
     issuer: u16,
@@ -43,16 +43,14 @@ impl Record {
     // The bytes of a head.
     const HEAD: usize = 18;
 
+    // The last place that a record can hold.
+    const PLACE_MOST: usize = 65535;
+
     // The record that stands where none was read: nothing but zeros.
     pub fn new() -> Record
         ensures { result ≡ fresh }
     {
-        Record {
-            start: 0,
-            issuer: 0,
-            subject: 0,
-            rest: 0,
-        }
+        Record::default()
     }
 
     // A record by its places. No card file has so many bytes that a place wraps.
@@ -60,45 +58,37 @@ impl Record {
         ensures { result ≡ placed start issuer subject rest }
     {
         Record {
-            start: (start % 65536) as u16,
-            issuer: (issuer % 65536) as u16,
-            subject: (subject % 65536) as u16,
-            rest: (rest % 65536) as u16,
+            start: place_of(start),
+            issuer: place_of(issuer),
+            subject: place_of(subject),
+            rest: place_of(rest),
         }
     }
 
     // Version, flags and dates; zeros where they can't be read.
+    #[tactic(auto, unfolding(crate::specs::Parts::head_of))]
     pub fn head(self, file: &[u8]) -> Head
         ensures { result ≡ head_of self file.now }
     {
-        match head_at(file, self.start as usize) {
-            Ok((head, _)) => head,
-            Err(_) => Head::default(),
-        }
+        value_or(head_at(file, self.start as usize), Head::default())
     }
 
     // The flags of the head, for who needs no more of it.
     pub fn flags(self, file: &[u8]) -> usize
         ensures { result ≡ (head_of self file.now).flags }
     {
-        match flags_past(file, self.start as usize) {
-            Ok((flags, _)) => flags,
-            Err(_) => 0,
-        }
+        self.head(file).flags
     }
 
     // Serial and algorithms; nowhere where they can't be read.
+    #[tactic(auto, unfolding(crate::specs::Parts::strings_of))]
     pub fn strings(self, file: &[u8]) -> Strings
         ensures { result ≡ strings_of self file.now }
     {
-        match strings_at(file, self.start as usize + Record::HEAD) {
-            Ok((strings, _)) => strings,
-            Err(_) => Strings {
-                serial: Span::NOWHERE,
-                outer: Span::NOWHERE,
-                inner: Span::NOWHERE,
-            },
-        }
+        value_or(
+            strings_at(file, self.start as usize + Record::HEAD),
+            Strings::NOWHERE,
+        )
     }
 
     // Where the issuer's name stands.
@@ -122,46 +112,50 @@ impl Record {
     }
 
     // Key ids, by the flags of the record's head; nowhere where they can't be read.
+    #[tactic(auto, unfolding(crate::specs::Parts::key_ids_of))]
     pub fn key_ids(self, file: &[u8], flags: usize) -> KeyIds
         ensures { result ≡ key_ids_of flags self file.now }
     {
-        match key_ids_at(file, self.rest as usize, flags) {
-            Ok((key_ids, _)) => key_ids,
-            Err(_) => NO_KEY_IDS,
-        }
+        value_or(key_ids_at(file, self.rest as usize, flags), KeyIds::NOWHERE)
     }
 
     // All that stands behind the names, by the flags of the record's head; nothing where it can't be read.
+    #[tactic(auto, unfolding(crate::specs::Parts::extensions_of))]
     pub fn extensions(self, file: &[u8], flags: usize) -> Extensions
         ensures { result ≡ extensions_of flags self file.now }
     {
-        match extensions_at(file, self.rest as usize, flags) {
-            Ok((extensions, _)) => extensions,
-            Err(_) => Extensions {
-                key_ids: NO_KEY_IDS,
-                path_length: 0,
-                usages: NONE_LISTED,
-                dns_names: NONE_LISTED,
-            },
-        }
+        value_or(
+            extensions_at(file, self.rest as usize, flags),
+            Extensions::NOWHERE,
+        )
     }
 }
 
-const NO_KEY_IDS: KeyIds = KeyIds {
-    authority: Span::NOWHERE,
-    authority_serial: Span::NOWHERE,
-    subject: Span::NOWHERE,
-};
-
-const NONE_LISTED: Run = Run { count: 0, first: 0 };
-
 // The record at a place.
+#[tactic(auto, unfolding(crate::specs::Record::record_p))]
 pub fn record_at(file: &[u8], at: usize) -> Reading<Record>
     ensures { read result ≡ record_p file.now at }
 {
-    let (flags, strings) = flags_past(file, at)?;
+    let (head, strings) = head_at(file, at)?;
     let (_, names) = strings_at(file, strings)?;
     let (names, rest) = names_at(file, names)?;
-    let (_, next) = extensions_at(file, rest, flags)?;
+    let (_, next) = extensions_at(file, rest, head.flags)?;
     Ok((Record::placed(at, names.issuer, names.subject, rest), next))
+}
+
+// What was read, or else.
+fn value_or<T: Copy>(found: Reading<T>, other: T) -> T
+    ensures { result ≡ value_or other (read found) }
+{
+    match found {
+        Ok((value, _)) => value,
+        Err(_) => other,
+    }
+}
+
+// A place as a record holds it.
+fn place_of(at: usize) -> u16
+    ensures { result ≡ place_of at }
+{
+    (at % (Record::PLACE_MOST + 1)) as u16
 }

@@ -12,6 +12,7 @@ pub struct Names {
     pub subject: usize,
 }
 
+#[tactic(auto, unfolding(crate::specs::Record::names_p))]
 pub(crate) fn names_at(file: &[u8], at: usize) -> Reading<Names>
     ensures { read result ≡ names_p file.now at }
 {

@@ -13,6 +13,15 @@ pub struct Strings {
     pub inner: Span,
 }
 
+impl Strings {
+    pub const NOWHERE: Strings = Strings {
+        serial: Span::NOWHERE,
+        outer: Span::NOWHERE,
+        inner: Span::NOWHERE,
+    };
+}
+
+#[tactic(auto, unfolding(crate::specs::Record::strings_p))]
 pub(crate) fn strings_at(file: &[u8], at: usize) -> Reading<Strings>
     ensures { read result ≡ strings_p file.now at }
 {
