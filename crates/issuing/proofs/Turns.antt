@@ -2,8 +2,8 @@
 -- verdict is no (`row_unsigned`) or whose record is not the claim's (`row_unlikely`), or joins it (`row-joined`), and it ends with
 -- each place asked (`row-whole`). A row for each subject, over any numbers, in `who_issued`: `rows_start`, `rows_turn`, `rows_whole`. The
 -- rows: specs/Records.antt.
-use Prim.Native.Nat.{ℕ, ◌+◌, ◌<◌, ◌≤◌}
-use mathlib.Core.Path.{◌≡◌, sym, ap, ◌∙◌}
+use Prim.Native.Nat.{ℕ, zero, suc, ◌+◌, ◌<◌, ◌≤◌}
+use mathlib.Core.Path.{◌≡◌, refl, sym, ap, ◌∙◌}
 use mathlib.Core.Bool.{Bool, true, false, ◌&&◌}
 use mathlib.Core.List.{List}
 use native.Mathlib.Omega.{arith}
@@ -15,7 +15,8 @@ use Rattle.certificates.proofs.Records.{size-within}
 use Rattle.rows.specs.Rows.{row_of, joined, listing}
 use Rattle.rows.proofs.Places.{row-none, row_more, row_kept}
 use Rattle.rows.proofs.Listing.{listing_none, listing-next}
-use Rattle.issuing.specs.Records.{fits_at}
+use Rattle.issuing.specs.Records.{claim_of, fits_at, likely_issued_at}
+use Rattle.issuing.proofs.Fits.{fits_claim}
 
 -- ---- a row
 
@@ -55,6 +56,14 @@ module _ {s : List ℕ} {claim : Claim} {signed : ℕ → Bool} {at : ℕ → Re
             within = omega arith;
             is = e ∙ ap (λ (r : ℕ). joined r i) t.is ∙ sym (row_more (asks s claim signed at) i (both ∙ h));
           }
+
+-- a row by a claim that a subject makes is the row of those that are its likely issuers
+pub row_claimed : (s : List ℕ) (subject : Record) (claim : Claim) (signed : ℕ → Bool) (at : ℕ → Record) (n : ℕ) → claim ≡ claim_of s subject
+    → row_of (asks s claim signed at) n ≡ row_of (λ i. signed i && likely_issued_at s (at i) subject) n
+unfolding row_of
+row_claimed s subject claim signed at zero h = refl
+row_claimed s subject claim signed at (suc n) h =
+    rw (row_claimed s subject claim signed at n h, h, fits_claim s (at n) subject)
 
 -- ---- a row for each subject
 

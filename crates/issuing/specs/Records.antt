@@ -1,8 +1,9 @@
 -- What Issued.antt says of certificates, said of records as they are, whether a reader made them or not: names of the same bytes are the
 -- same, and else one that can't be read is no one's. Then a row for each subject, and who issued any. That it is the same on a card that
 -- was read: proofs/Agrees.antt.
-use Rattle.std.specs.Prelude.{ℕ, ◌≡◌, Bool, true, cond, ◌&&◌, List, [], ◌∷◌, Some, None}
+use Rattle.std.specs.Prelude.{ℕ, ◌≡◌, Bool, true, ◌&&◌, List, [], ◌∷◌, Some, None}
 use Rattle.std.specs.Prelude as Rust
+use Rattle.core.specs.Bool.{then_some}
 use Rattle.std.proofs.Math.Option.{Option, some, none}
 use Rattle.places.specs.Limits.{roots_most, bundle_most}
 use Rattle.places.specs.declared.BundlePlace.{BundlePlace}
@@ -27,8 +28,8 @@ claim_of s subject =
     let flags = (head_of subject s).flags in
     let ids = key_ids_of flags subject s in
     record {
-      key_id = cond (has_authority_key_id flags) (Some ids.authority) None;
-      serial = cond (has_authority_serial flags) (Some ids.authority_serial) None;
+      key_id = then_some (has_authority_key_id flags) ids.authority;
+      serial = then_some (has_authority_serial flags) ids.authority_serial;
       name = issuer_span subject;
     }
 
