@@ -1,6 +1,6 @@
 -- When an issuer is the one that a subject names (upstream's `check_auth_key_id`; docs/CARD-FILE.md, "Keys and addresses"; RFC 5280,
 -- 4.2.1.1, which asks for more: docs/DIFFERENCES.md, F4). A reader must believe this file (docs/MAP.md).
--- Not here: which parts of two certificates are handed in (issuing/specs/Issued.antt); a part and its flag (Given.antt); that upstream's
+-- Not here: which parts of two certificates are handed in (issuing/specs/Issued.antt); an optional part as code lends it (Given.antt); that upstream's
 -- clause is the same (`auth_key_id_upstream` of proofs/Upstream.antt); address ranges (Address.antt).
 use Rattle.std.specs.Prelude.{ℕ, Bool, true, ◌&&◌, List}
 use Rattle.std.proofs.Math.Option.{Option, none, some}

@@ -1,10 +1,11 @@
 // Authority key identifiers (RFC 5280, 4.2.1.1).
 ghost use Rattle.std.specs.Prelude.{◌≡◌};
-ghost use Rattle.keys.specs.AuthKeyId.{check_auth_key_id};
+ghost use Rattle.keys.specs.AuthKeyId.{agree, check_auth_key_id};
 ghost use Rattle.keys.specs.Given.{given};
 
 // Whether what a subject says of its issuer's key fits the issuer: the subject's authority key id and authority serial,
 // the issuer's subject key id and serial.
+#[tactic(auto, unfolding(crate::specs::AuthKeyId::check_auth_key_id))]
 pub fn check_auth_key_id(
     akid: Option<&[u8]>,
     aserial: Option<&[u8]>,
@@ -13,13 +14,15 @@ pub fn check_auth_key_id(
 ) -> bool
     ensures { result ≡ check_auth_key_id (given akid.entry) (given aserial.entry) (given skid.entry) serial.now }
 {
-    if let (Some(akid), Some(skid)) = (akid, skid) {
-        if !text::equal(akid, skid) {
-            return false;
-        }
-    }
-    match aserial {
-        Some(aserial) => text::equal(aserial, serial),
-        None => true,
+    agree(akid, skid) && agree(aserial, Some(serial))
+}
+
+// Whether two parts are the same where both are present.
+fn agree(a: Option<&[u8]>, b: Option<&[u8]>) -> bool
+    ensures { result ≡ agree (given a.entry) (given b.entry) }
+{
+    match (a, b) {
+        (Some(a), Some(b)) => text::equal(a, b),
+        _ => true,
     }
 }
