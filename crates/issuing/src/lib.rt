@@ -6,6 +6,7 @@ mod likely;
 mod row;
 
 ghost use Rattle.std.specs.Prelude.{◌≡◌};
+ghost use Rattle.verdicts.specs.Grid.{bundle_signed, root_signed};
 ghost use Rattle.issuing.specs.Records.{bundle_rows, root_rows, issuers_of, self_issued_at};
 
 use card::{Bundle, BundlePlace, Card, RootPlace};
@@ -33,12 +34,24 @@ pub fn who_issued(file: &[u8], card: Card) -> Issuing
     for j in 0..card.bundle.size() {
         let subject = BundlePlace(j);
         let claim = claim_of(file, card.bundle.record(subject));
-        bundle[j as usize] = issuers_row(file, &card.bundle, subject, claim, |i, subject| {
-            verdicts.bundle_signed(file, BundlePlace(i), subject)
-        });
-        roots[j as usize] = issuers_row(file, &card.roots, subject, claim, |i, subject| {
-            verdicts.root_signed(file, RootPlace(i), subject)
-        });
+        bundle[j as usize] = issuers_row(
+            file,
+            &card.bundle,
+            subject,
+            claim,
+            |i, subject| -> bool
+                ensures { result ≡ bundle_signed verdicts file.entry.now i subject.0 }
+            { verdicts.bundle_signed(file, BundlePlace(i), subject) },
+        );
+        roots[j as usize] = issuers_row(
+            file,
+            &card.roots,
+            subject,
+            claim,
+            |i, subject| -> bool
+                ensures { result ≡ root_signed verdicts file.entry.now i subject.0 }
+            { verdicts.root_signed(file, RootPlace(i), subject) },
+        );
     }
     Issuing { bundle, roots }
 }
