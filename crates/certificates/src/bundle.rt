@@ -18,7 +18,7 @@ impl Bundle {
     pub fn record(self, place: BundlePlace) -> Record
         ensures { result ≡ record_of self.count self.records place.0 }
     {
-        self.record_at(place.0)
+        self.nth(place.0)
     }
 }
 

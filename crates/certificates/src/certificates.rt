@@ -25,8 +25,8 @@ impl<const MOST: usize> Certificates<MOST> {
 
     // The record at a place; the one of nothing but zeros where there is no such place.
     #[tactic(auto, using(crate::proofs::Records::record_none, crate::proofs::Records::record_outside, crate::proofs::Records::record_there))]
-    pub(crate) fn record_at(self, place: u8) -> Record
-        ensures { result ≡ record_of self.entry.count self.entry.records place }
+    pub fn nth(&self, place: u8) -> Record
+        ensures { result ≡ record_of self.now.count self.now.records place }
     {
         if self.count <= place || MOST <= place as usize {
             return Record::new();

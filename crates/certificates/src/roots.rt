@@ -18,7 +18,7 @@ impl Roots {
     pub fn record(self, place: RootPlace) -> Record
         ensures { result ≡ record_of self.count self.records place.0 }
     {
-        self.record_at(place.0)
+        self.nth(place.0)
     }
 }
 

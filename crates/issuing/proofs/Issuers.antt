@@ -1,13 +1,16 @@
 -- Those that issued any. Who stands in one of the rows is among them (`issuer_among`, for policy/proofs/Qualified.antt). The loop of
--- `issuers_of` takes the rows from the last to the first: it begins with none (`issuers_none`), and each turn takes one row in
--- (`issuers_more`).
-use Prim.Native.Nat.{ℕ, zero, suc, ◌-◌, ◌≤◌, ◌<◌}
+-- `issuers_of` begins with none (`issuers_all`), each turn takes one row in (`issuers_next`), and at the end all are (`issuers_done`).
+use Prim.Native.Nat.{ℕ, zero, suc, ◌+◌, ◌≤◌, ◌<◌}
 use mathlib.Core.Bool.{true, or-true, false≢true}
 use mathlib.Core.List.{List, [], ◌∷◌}
 use mathlib.Core.Path.{◌≡◌, sym, ap, ◌∙◌}
 use native.Mathlib.Omega.{arith}
 use lib.ListN.{length, get_or, drop}
-use lib.Seq.{drop-cons, drop-length}
+use lib.Seq.{drop-cons}
+use Rattle.std.proofs.Common.{add-one}
+use Rattle.std.proofs.lemmas.List.{drop_all}
+use Rattle.std.proofs.lemmas.Nat.Bits.{bit_at_or, same_from_bits}
+use Rattle.std.specs.Int.Bits.{or_zero_l, or_zero_r}
 use Rattle.rows.specs.Rows.{has, either}
 use Rattle.rows.proofs.Places.{has-none, has_either}
 use Rattle.issuing.specs.Records.{issuers_of}
@@ -18,13 +21,21 @@ issuer_among [] j i h = absurd (false≢true (sym (has-none i) ∙ h))
 issuer_among (row ∷ rows) zero i h = has_either i row (issuers_of rows) ∙ rw h
 issuer_among (row ∷ rows) (suc j) i h = has_either i row (issuers_of rows) ∙ rw (issuer_among rows j i h, or-true)
 
-module _ (rows : List ℕ) where
-  pub issuers_none : (j : ℕ) → j ≡ length rows → 0 ≡ issuers_of (drop j rows)
-  unfolding issuers_of
-  issuers_none j e = rw (e, drop-length rows)
+-- bit by bit
+either_assoc : (a b c : ℕ) → either a (either b c) ≡ either (either a b) c
+unfolding either
+either_assoc a b c = same_from_bits _ _ (λ i. simp bit_at_or (omega arith))
 
-  pub issuers_more : (j all : ℕ) → 0 < j → j ≤ length rows → all ≡ issuers_of (drop j rows) → either (get_or rows (j - 1) 0) all ≡ issuers_of (drop (j - 1) rows)
+module _ (rows : List ℕ) where
+  pub issuers_all : issuers_of rows ≡ either 0 (issuers_of rows)
+  unfolding either
+  issuers_all = sym (or_zero_l _)
+
+  pub issuers_next : (i all : ℕ) → i < length rows → issuers_of rows ≡ either all (issuers_of (drop i rows))
+      → issuers_of rows ≡ either (either all (get_or rows i 0)) (issuers_of (drop (i + 1) rows))
   unfolding issuers_of
-  issuers_more j all some few e =
-      let next : suc (j - 1) ≡ j = omega arith in
-      rw (drop-cons rows (j - 1) 0 (omega arith)) (ap (either (get_or rows (j - 1) 0)) (e ∙ ap (λ (k : ℕ). issuers_of (drop k rows)) (sym next)))
+  issuers_next i all below e = e ∙ rw (add-one, drop-cons rows i 0) (either_assoc all (get_or rows i 0) (issuers_of (drop (suc i) rows)))
+
+  pub issuers_done : (i all : ℕ) → length rows ≤ i → issuers_of rows ≡ either all (issuers_of (drop i rows)) → all ≡ issuers_of rows
+  unfolding issuers_of either
+  issuers_done i all whole e = sym (e ∙ rw (drop_all i rows whole) (or_zero_r all))

@@ -6,20 +6,21 @@ mod likely;
 mod row;
 
 ghost use Rattle.std.specs.Prelude.{◌≡◌};
+ghost use Rattle.verdicts.specs.Grid.{bundle_signed, root_signed};
 ghost use Rattle.issuing.specs.Records.{bundle_rows, root_rows, issuers_of, self_issued_at};
 
-use card::{Bundle, BundlePlace, Card};
+use card::{Bundle, BundlePlace, Card, RootPlace};
 use likely::claim_of;
 use record::Record;
-use row::{bundle_row, root_row};
+use row::issuers_row;
 use rows::either;
 use same::same_names;
 
 // Who issued whom: a row for each subject of the bundle.
 #[derive(Clone, Copy)]
 pub struct Issuing {
-    pub bundle: [u64; Bundle::MOST],
-    pub roots: [u64; Bundle::MOST],
+    pub bundle: [u64; BundlePlace::MOST],
+    pub roots: [u64; BundlePlace::MOST],
 }
 
 // Who issued whom in a card, as rows. What a subject says of its issuer is read once for both of its rows.
@@ -27,35 +28,41 @@ pub fn who_issued(file: &[u8], card: Card) -> Issuing
     ensures bundle_value { result.bundle ≡ bundle_rows file.now card.bundle card.verdicts }
     ensures roots_value { result.roots ≡ root_rows file.now card.roots card.bundle card.verdicts }
 {
-    let bundle = card.bundle;
-    let roots = card.roots;
     let verdicts = card.verdicts;
-    let n = bundle.size();
-    let mut by_bundle = [0u64; Bundle::MOST];
-    let mut by_roots = [0u64; Bundle::MOST];
-    let mut j: u8 = 0;
-    while j < n {
+    let mut bundle = [0u64; BundlePlace::MOST];
+    let mut roots = [0u64; BundlePlace::MOST];
+    for j in 0..card.bundle.size() {
         let subject = BundlePlace(j);
-        let claim = claim_of(file, bundle.record(subject));
-        by_bundle[j as usize] = bundle_row(file, bundle, verdicts, subject, claim);
-        by_roots[j as usize] = root_row(file, roots, verdicts, subject, claim);
-        j += 1;
+        let claim = claim_of(file, card.bundle.record(subject));
+        bundle[j as usize] = issuers_row(
+            file,
+            &card.bundle,
+            subject,
+            claim,
+            |i, subject| -> bool
+                ensures { result ≡ bundle_signed verdicts file.entry.now i subject.0 }
+            { verdicts.bundle_signed(file, BundlePlace(i), subject) },
+        );
+        roots[j as usize] = issuers_row(
+            file,
+            &card.roots,
+            subject,
+            claim,
+            |i, subject| -> bool
+                ensures { result ≡ root_signed verdicts file.entry.now i subject.0 }
+            { verdicts.root_signed(file, RootPlace(i), subject) },
+        );
     }
-    Issuing {
-        bundle: by_bundle,
-        roots: by_roots,
-    }
+    Issuing { bundle, roots }
 }
 
 // Those that issued any certificate: they stand in one of the rows.
-pub fn issuers_of(rows: [u64; Bundle::MOST]) -> u64
+pub fn issuers_of(rows: [u64; BundlePlace::MOST]) -> u64
     ensures { result ≡ issuers_of rows }
 {
     let mut all: u64 = 0;
-    let mut j = Bundle::MOST;
-    while 0 < j {
-        j -= 1;
-        all = either(rows[j], all);
+    for row in rows.iter() {
+        all = either(all, *row);
     }
     all
 }

@@ -1,62 +1,33 @@
-// A row of bits for a certificate of the bundle, whose claim is at hand: which places issued it. The verdict is looked up first: where it
-// is no, nothing is compared.
-ghost use Rattle.std.specs.Prelude.{◌&&◌, ◌≡◌};
-ghost use Rattle.places.specs.Limits.{roots_most, bundle_most};
-ghost use Rattle.record.specs.declared.Record.{Record};
+// A row of bits for a certificate of the bundle, whose claim is at hand: which places issued it.
+ghost use Rattle.std.specs.Prelude.{Bool, ◌&&◌, ◌≡◌, ℕ};
 ghost use Rattle.certificates.specs.Certificates.{record_of, size_of};
-ghost use Rattle.verdicts.specs.Grid.{bundle_signed, root_signed};
 ghost use Rattle.rows.specs.Rows.{row_of};
-ghost use Rattle.issuing.specs.Records.{claim_of, likely_issued_at};
+ghost use Rattle.issuing.specs.Records.{fits_at, Tells};
 
 use crate::likely::{Claim, fits};
-use card::{Bundle, BundlePlace, RootPlace, Roots, Verdicts};
+use card::BundlePlace;
+use certificates::Certificates;
 use rows::with;
 
-// Which bundle places issued the certificate at a place. A record is taken straight from its place, so that the bundle is not copied for
-// each pair.
-pub(crate) fn bundle_row(
+// Which of the issuers issued the certificate at a place, by the verdicts on them. The verdict is looked up first: where it is no, nothing
+// is compared.
+pub(crate) fn issuers_row<const MOST: usize, F: Fn(u8, BundlePlace) -> bool>(
     file: &[u8],
-    bundle: Bundle,
-    verdicts: Verdicts,
+    issuers: &Certificates<MOST>,
     subject: BundlePlace,
     claim: Claim,
+    signed: F,
 ) -> u64
-    ensures { (cert : Record) → claim ≡ claim_of file.now cert → result ≡ row_of (λ i. bundle_signed verdicts file.now i subject.0 && likely_issued_at file.now (record_of bundle.count bundle.records i) cert) (size_of bundle_most bundle.count) }
+    requires { F.IsAlwaysCallable signed }
+    ensures { (verdict : ℕ → Bool) → Tells verdict subject (F.post signed) → result ≡ row_of (λ i. verdict i && fits_at file.now (record_of issuers.now.count issuers.now.records i) claim) (size_of MOST issuers.now.count) }
 {
-    let n = bundle.size();
     let mut row: u64 = 0;
-    let mut i: u8 = 0;
-    while i < n {
-        if verdicts.bundle_signed(file, BundlePlace(i), subject) {
-            if fits(file, bundle.records[i as usize], claim) {
+    for i in 0..issuers.size() {
+        if signed(i, subject) {
+            if fits(file, issuers.nth(i), claim) {
                 row = with(row, i);
             }
         }
-        i += 1;
-    }
-    row
-}
-
-// Which roots issued the certificate at a place.
-pub(crate) fn root_row(
-    file: &[u8],
-    roots: Roots,
-    verdicts: Verdicts,
-    subject: BundlePlace,
-    claim: Claim,
-) -> u64
-    ensures { (cert : Record) → claim ≡ claim_of file.now cert → result ≡ row_of (λ i. root_signed verdicts file.now i subject.0 && likely_issued_at file.now (record_of roots.count roots.records i) cert) (size_of roots_most roots.count) }
-{
-    let n = roots.size();
-    let mut row: u64 = 0;
-    let mut root: u8 = 0;
-    while root < n {
-        if verdicts.root_signed(file, RootPlace(root), subject) {
-            if fits(file, roots.record(RootPlace(root)), claim) {
-                row = with(row, root);
-            }
-        }
-        root += 1;
     }
     row
 }

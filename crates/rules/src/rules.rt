@@ -28,10 +28,7 @@ impl Time {
 pub fn in_date(time: Time, head: Head) -> bool
     ensures { (cert : Record) (s : List ℕ) → result ≡ in_date time (certificate_by head cert s) }
 {
-    if time.now < head.not_before {
-        return false;
-    }
-    time.now <= head.not_after
+    head.not_before <= time.now && time.now <= head.not_after
 }
 
 // X.509 v3, and the algorithm inside the signature is the one outside it.

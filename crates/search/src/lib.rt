@@ -5,23 +5,16 @@
 ghost use Rattle.card.specs.Content.{content_p};
 ghost use Rattle.search.specs.Search.{Search, Pause};
 
-use card::Ended;
-use question::{When, pose};
+use question::pose;
 use reply::Answer;
 
 // Searches with the file's own budget, and leaves zeros in the needed slots.
 pub fn search(file: &[u8], room: &mut [u8]) -> Answer
     ensures { Search (content_p file.now) room.old room.new result }
 {
-    let posed = pose(file, When::Own);
-    let ended = posed.ended;
-    match ended {
-        Ended::Read => {
-            return steps::search(room, posed.question);
-        }
-        Ended::Stop(fault) => {
-            return Answer::stopped(fault.number());
-        }
+    match pose(file, None) {
+        Ok(question) => steps::search(room, question),
+        Err(fault) => Answer::stopped(fault.into()),
     }
 }
 
@@ -29,14 +22,8 @@ pub fn search(file: &[u8], room: &mut [u8]) -> Answer
 pub fn paused(file: &[u8], k: u64, room: &mut [u8]) -> Answer
     ensures { Pause (content_p file.now) k room.old room.new result }
 {
-    let posed = pose(file, When::Own);
-    let ended = posed.ended;
-    match ended {
-        Ended::Read => {
-            return steps::paused(room, posed.question, k);
-        }
-        Ended::Stop(fault) => {
-            return Answer::stopped(fault.number());
-        }
+    match pose(file, None) {
+        Ok(question) => steps::paused(room, question, k),
+        Err(fault) => Answer::stopped(fault.into()),
     }
 }

@@ -1,5 +1,4 @@
 -- `who_issued` fills both rows of a subject in a turn. The invariant: the rows of the subjects below j, and zeros past them.
-use Prim.Native.Nat.{◌-◌}
 use Rattle.places.specs.Limits.{roots_most, bundle_most}
 use Rattle.certificates.specs.Certificates.{record_of, size_of}
 use Rattle.rows.specs.Rows.{row_of}
@@ -9,8 +8,7 @@ use Rattle.issuing.proofs.who_issued.Given as goal
 
 abbrev pub invariant-loop-j : goal.invariant-loop-j
 invariant-loop-j l =
-    RowsTo bundle_most (λ k. row_of (λ i. bundle_issued_at l.file l.bundle l.verdicts i k) (size_of bundle_most l.bundle.count)) l.n l.by_bundle l.j
-    × RowsTo bundle_most (λ k. row_of (λ i. root_issued_at l.file l.roots l.verdicts (record_of l.bundle.count l.bundle.records k) i k) (size_of roots_most l.roots.count)) l.n l.by_roots l.j
-
-abbrev pub decreases-loop-j : goal.decreases-loop-j
-decreases-loop-j l = l.n - l.j
+    let b = l.card.bundle in
+    let r = l.card.roots in
+    RowsTo bundle_most (λ k. row_of (λ i. bundle_issued_at l.file b l.verdicts i k) (size_of bundle_most b.count)) l.j-end l.bundle l.j
+    × RowsTo bundle_most (λ k. row_of (λ i. root_issued_at l.file r l.verdicts (record_of b.count b.records k) i k) (size_of roots_most r.count)) l.j-end l.roots l.j
