@@ -2,10 +2,12 @@
 // and a path stands by its places, one after another.
 #![tactic(auto)]
 
+mod ground;
 mod judged;
 mod seating;
 mod standing;
 
+pub use ground::Ground;
 pub use judged::{Above, Between, Judged, judge};
 pub use seating::{Seats, seats_in, seats_of};
 pub use standing::{Standing, added, begun, over};
