@@ -8,7 +8,7 @@ ghost use Rattle.rows.specs.Rows.{joined, left, common, highest};
 ghost use Rattle.steps.specs.Parts.{roots_seated, stack_of, Ready, onward, Ends, Stopped};
 
 use places::{BundlePlace, RootPlace};
-use policy::{Seats, Standing, added, begun, over};
+use policy::{Ground, Seats, Standing, added, begun, over};
 use reply::Reply;
 use rows::{below, highest, lowest, shared, with, without};
 
@@ -45,10 +45,9 @@ pub(crate) fn first(n: u8) -> Depths
     ensures ready { (rows seats : List ℕ) → Ready (places_by rows n) seats result }
     ensures leaf { stack_of n result ≡ (0 ∷ []) ∷ [] }
 {
-    let standing = begun();
     let level = Level {
         free: below(n),
-        standing,
+        standing: begun(),
     };
     Depths {
         place: [0u8; BundlePlace::MOST],
@@ -76,8 +75,7 @@ fn children(level: Level, i: u8, issuers: u64) -> u64
 fn standing_by(level: Level, i: u8, seats: &[u64; Seats::ROWS]) -> Standing
     ensures { result ≡ added seats.now level.standing i }
 {
-    let before = level.standing;
-    added(seats, before, i)
+    added(seats, level.standing, i)
 }
 
 // The roots by which a path qualifies that stands so, and whose last place these roots issued.
@@ -96,16 +94,9 @@ fn onward(level: Level, i: u8, standing: Standing) -> Level
 }
 
 // The walk from where it stands on.
-pub(crate) fn walk(
-    from: Depths,
-    n: u8,
-    rows: &[u64; BundlePlace::MOST],
-    roots: &[u64; BundlePlace::MOST],
-    seats: &[u64; Seats::ROWS],
-    budget: u64,
-) -> End
-    requires { (n ≤ bundle_most) × Ready (places_by rows.now n) seats.now from }
-    ensures { Stopped (places_by rows.now n) (Ends (places_by rows.now n) (roots_seated roots.now seats.now) budget (stack_of n from)) (stack_of n from) result }
+pub(crate) fn walk(from: Depths, n: u8, ground: Ground, budget: u64) -> End
+    requires { (n ≤ bundle_most) × Ready (places_by ground.rows.now n) ground.seats.now from }
+    ensures { Stopped (places_by ground.entry.rows.now n) (Ends (places_by ground.entry.rows.now n) (roots_seated ground.entry.roots.now ground.entry.seats.now) budget (stack_of n from)) (stack_of n from) result }
 {
     let mut ahead = from.ahead;
     let mut levels = from.levels;
@@ -133,9 +124,9 @@ pub(crate) fn walk(
         let i = next_place(row);
         place[d] = i;
         row = without(row, with(0, i));
-        let next = children(here, i, rows[i as usize]);
-        let standing = standing_by(here, i, seats);
-        let tops = roots_over(standing, roots[i as usize], seats);
+        let next = children(here, i, ground.rows[i as usize]);
+        let standing = standing_by(here, i, ground.seats);
+        let tops = roots_over(standing, ground.roots[i as usize], ground.seats);
         let len = d + 1;
         if next != 0 {
             ahead[d] = row;

@@ -5,10 +5,10 @@ use Rattle.steps.proofs.walk.first.Goals as goal
 
 pub returns-clause-ready : goal.returns-clause-ready
 returns-clause-ready c =
-    let level = same_level c.below.ensures c.begun-standing.ensures in
+    let level = same_level c.below.ensures c.begun.ensures in
     let leaf = c.with.ensures in (λ rows seats. first_ready c.args.n _ _ c.requires.0 leaf seats _ level refl c.requires.1 rows)
 
 pub returns-clause-leaf : goal.returns-clause-leaf
 returns-clause-leaf c =
-    let level = same_level c.below.ensures c.begun-standing.ensures in
+    let level = same_level c.below.ensures c.begun.ensures in
     let leaf = c.with.ensures in (first-stack c.args.n _ _ c.requires.0 leaf)

@@ -31,7 +31,7 @@ abbrev path : After-roots_over-tops → List ℕ
 path c = snoc (take c.loop-row.d c.loop-row.place) c.next_place-i.result
 
 abbrev graph : After-roots_over-tops → Places
-graph c = places_by c.args.rows.now c.args.n
+graph c = places_by c.args.ground.rows.now c.args.n
 
 abbrev began : After-roots_over-tops → List (List ℕ)
 began c = stack_of c.args.n c.args.from
@@ -44,7 +44,7 @@ fewer : (c : After-roots_over-tops) → c.without-row.result ≡ left c.loop-row
 fewer c = c.without-row.ensures ∙ ap (left c.loop-row.row) c.with.ensures
 
 -- the path's roots as a row
-over : (c : After-roots_over-tops) → c.roots_over-tops.result ≡ roots_over c.args.roots.now c.args.seats.now (path c)
+over : (c : After-roots_over-tops) → c.roots_over-tops.result ≡ roots_over c.args.ground.roots.now c.args.ground.seats.now (path c)
 over c = roots_are c.loop-row.invariant.stands c.next_place-i.ensures c.if-row-eq0.false _ c.standing_by-standing.ensures c.roots_over-tops.ensures
 
 -- it was on top
@@ -53,7 +53,7 @@ on_top c = met c.loop-row.invariant.stands c.next_place-i.ensures c.if-row-eq0.f
 
 -- the state after the step, and how deep it is
 moved : (c : Joined-next-ne0)
-    → Stands (places_by c.args.rows.now c.args.n) c.args.seats.now (stack_of c.args.n c.args.from) c.if-next-ne0.ahead c.if-next-ne0.levels
+    → Stands (places_by c.args.ground.rows.now c.args.n) c.args.ground.seats.now (stack_of c.args.n c.args.from) c.if-next-ne0.ahead c.if-next-ne0.levels
     (set c.loop-row.place c.loop-row.d c.next_place-i.result) c.if-next-ne0.row c.if-next-ne0.here c.if-next-ne0.d
     (c.loop-row.steps + 1)
     × (c.if-next-ne0.d ≤ c.loop-row.d + 1)
@@ -93,11 +93,11 @@ returns-then-budget-steps c =
     rw c.stopped-then-budget-steps.ensures
     (stop-exhausted l.invariant.vain l.invariant.stands c.if-row-eq0.false l.invariant.time c.if-budget-steps.true)
 
-pub bounds-rows-i : goal.bounds-rows-i
-bounds-rows-i c = low (goal.at.bounds-rows-i c).After-next_place-i
+pub bounds-ground-i : goal.bounds-ground-i
+bounds-ground-i c = low (goal.at.bounds-ground-i c).After-next_place-i
 
-pub bounds-roots-i : goal.bounds-roots-i
-bounds-roots-i c = low (goal.at.bounds-roots-i c).After-next_place-i
+pub bounds-ground-i-in-loop-row : goal.bounds-ground-i-in-loop-row
+bounds-ground-i-in-loop-row c = low (goal.at.bounds-ground-i-in-loop-row c).After-next_place-i
 
 pub offset_bounds-ahead-d-then-tops-ne0 : goal.offset_bounds-ahead-d-then-tops-ne0
 offset_bounds-ahead-d-then-tops-ne0 c = search (rules, (moved (goal.at.offset_bounds-ahead-d-then-tops-ne0 c).Joined-next-ne0).0.deep)

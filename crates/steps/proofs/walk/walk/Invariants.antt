@@ -8,7 +8,7 @@ use Rattle.steps.proofs.walk.walk.Given as goal
 
 abbrev pub invariant-loop-row : goal.invariant-loop-row
 invariant-loop-row l =
-    Going (places_by l.rows l.n) (roots_seated l.roots l.seats) l.seats l.budget (waiting l.n l.initial.ahead l.initial.place (l.initial.d + 1)) l.ahead l.levels l.place l.row l.here l.d l.steps
+    Going (places_by l.ground.rows.now l.n) (roots_seated l.ground.roots.now l.ground.seats.now) l.ground.seats.now l.budget (waiting l.n l.initial.ahead l.initial.place (l.initial.d + 1)) l.ahead l.levels l.place l.row l.here l.d l.steps
 
 abbrev pub decreases-loop-row : goal.decreases-loop-row
 decreases-loop-row l =
