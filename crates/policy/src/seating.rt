@@ -7,6 +7,7 @@ ghost use Rattle.policy.specs.Standing.{Seated};
 use crate::Judged;
 use card::{Bundle, Roots};
 use rows::{below, either, lowest, shared, with, without};
+use std::cmp::min;
 
 // Three rows for each seat: the roots that may stand above, the places that may come next and count, and those that may and don't. Seat 0
 // is none, seat 1 is before the leaf, and each after it is above the leaf and one certificate more that counts.
@@ -41,17 +42,27 @@ pub fn seats_of(judged: Judged, after: u8) -> Seats
 pub fn seats_in(rows: &mut [u64; Seats::ROWS], judged: Judged, after: u8)
     ensures { Seated judged after rows.new }
 {
-    let last = lesser(after as usize, Bundle::MOST - 1);
+    let last = min(after as usize, Bundle::MOST - 1);
     let tops = shared(judged.above.sound, below(Roots::MOST as u8));
     let between = shared(judged.between.sound, below(Bundle::MOST as u8));
     let counted = shared(between, judged.counted);
     let others = without(between, judged.counted);
-    let roots = judged.above.limits;
-    let places = judged.between.limits;
     *rows = [0u64; Seats::ROWS];
-    fill_from(rows, Seats::ROOTS + 2, last, tops, &roots);
-    fill_from(rows, Seats::COUNTED + 2, last, counted, &places);
-    fill_from(rows, Seats::OTHERS + 2, last, others, &places);
+    fill_from(rows, Seats::ROOTS + 2, last, tops, &judged.above.limits);
+    fill_from(
+        rows,
+        Seats::COUNTED + 2,
+        last,
+        counted,
+        &judged.between.limits,
+    );
+    fill_from(
+        rows,
+        Seats::OTHERS + 2,
+        last,
+        others,
+        &judged.between.limits,
+    );
     rows[Seats::COUNTED + 1] = judged.leaves;
 }
 
@@ -83,7 +94,7 @@ fn enter(rows: &mut [u64], last: usize, sound: u64, limits: &[u8])
     let mut rest = sound;
     let mut i = lowest(rest);
     while (i as usize) < limits.len() {
-        let row = lesser(limits[i as usize] as usize, last);
+        let row = min(limits[i as usize] as usize, last);
         rows[row] = with(rows[row], i);
         rest = without(rest, with(0, i));
         i = lowest(rest);
@@ -95,18 +106,7 @@ fn hand_on(rows: &mut [u64], last: usize)
     requires { (length rows.old ≡ bundle_most) × (last < bundle_most) }
     ensures { (sound : ℕ) (limits : List ℕ) → Entered last sound limits rows.old → Filled last sound limits rows.new }
 {
-    let mut k = last;
-    while 0 < k {
-        rows[k - 1] = either(rows[k - 1], rows[k]);
-        k -= 1;
+    for k in (0..last).rev() {
+        rows[k] = either(rows[k], rows[k + 1]);
     }
-}
-
-fn lesser(a: usize, b: usize) -> usize
-    ensures { result ≡ min a b }
-{
-    if a < b {
-        return a;
-    }
-    b
 }
