@@ -1,6 +1,6 @@
 // What can be judged once per certificate is judged here, once, so that a path costs a few operations a place.
 ghost use Rattle.std.specs.Prelude.{List, ◌≡◌, ℕ, ◌<◌, ◌&&◌, cond, replicate, set};
-ghost use Rattle.rows.specs.Rows.{joined};
+ghost use Rattle.rows.specs.Rows.{joined, common, left};
 ghost use Rattle.record.specs.Parts.{certificate_by};
 ghost use Rattle.record.specs.declared.Record.{Record};
 ghost use Rattle.rules.specs.Records.{for_servers_at, for_host_at};
@@ -11,7 +11,7 @@ use extensions::Extensions;
 use fields::part;
 use issuing::{Issuing, issuers_of, self_issued, who_issued};
 use record::{Head, Record};
-use rows::{has, with};
+use rows::{has, shared, with, without};
 use rules::{Time, authority, for_host, for_servers, handled, in_date, limit, well_formed};
 
 // The places that may stand somewhere in a chain, and for each how many certificates that count its path length lets stand below it.
@@ -48,6 +48,24 @@ impl<const MOST: usize> Sound<MOST> {
         if stands {
             self.sound = with(self.sound, i);
         }
+    }
+
+    // Of these the ones that stand in a row too.
+    pub(crate) fn among(self, row: u64) -> Self
+        ensures { result ≡ record { sound = common self.entry.sound row; limits = self.entry.limits } }
+    {
+        let mut some = self;
+        some.sound = shared(self.sound, row);
+        some
+    }
+
+    // Of these the ones that don't stand in a row.
+    pub(crate) fn outside(self, row: u64) -> Self
+        ensures { result ≡ record { sound = left self.entry.sound row; limits = self.entry.limits } }
+    {
+        let mut some = self;
+        some.sound = without(self.sound, row);
+        some
     }
 }
 
