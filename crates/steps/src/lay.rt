@@ -44,14 +44,14 @@ fn lay_row(room: &mut [u8], m: usize, s: [u8; Slot::BYTES], row: u64, n: u8) -> 
 // Lays what waits at the end of a walk in the slots from the first on, and returns how many paths wait.
 fn lay(room: &mut [u8], n: u8, end: End) -> usize
     requires depths_le_bundle_most { end.depths ≤ bundle_most }
-    requires depths_in_bounds { slot_bytes * length (waiting n end.ahead end.place end.depths) ≤ length room.old }
-    ensures count { result ≡ length (waiting n end.ahead end.place end.depths) }
-    ensures room { room.new ≡ flat (waiting n end.ahead end.place end.depths) ++ drop (slot_bytes * result) room.old }
+    requires depths_in_bounds { slot_bytes * length (waiting n end.levels end.place end.depths) ≤ length room.old }
+    ensures count { result ≡ length (waiting n end.levels end.place end.depths) }
+    ensures room { room.new ≡ flat (waiting n end.levels end.place end.depths) ++ drop (slot_bytes * result) room.old }
 {
     let mut s = [0u8; Slot::BYTES];
     let mut m = 0;
     for k in 0..end.depths {
-        m = lay_row(room, m, s, end.ahead[k], n);
+        m = lay_row(room, m, s, end.levels[k].ahead, n);
         s[k + 1] = end.place[k];
         s[0] = (k + 1) as u8;
     }
@@ -61,8 +61,8 @@ fn lay(room: &mut [u8], n: u8, end: End) -> usize
 // Leaves what waits at the end of a walk in the needed slots, and zeros above it.
 pub(crate) fn leave(room: &mut [u8], n: u8, end: End)
     requires n_le_bundle_most { (n ≤ bundle_most) × (end.depths ≤ bundle_most) }
-    requires depths_len_bound { (length (waiting n end.ahead end.place end.depths) ≤ slots_of n) × (slot_bytes * slots_of n ≤ length room.old) }
-    ensures { room.new ≡ holding n (waiting n end.ahead end.place end.depths) room.old }
+    requires depths_len_bound { (length (waiting n end.levels end.place end.depths) ≤ slots_of n) × (slot_bytes * slots_of n ≤ length room.old) }
+    ensures { room.new ≡ holding n (waiting n end.levels end.place end.depths) room.old }
 {
     let waiting = lay(room, n, end);
     zero_bytes(

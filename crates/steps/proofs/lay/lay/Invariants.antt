@@ -7,4 +7,4 @@ use Rattle.steps.proofs.lay.lay.Given as goal
 
 abbrev pub invariant-loop-k : goal.invariant-loop-k
 invariant-loop-k l =
-    (l.s ≡ slot_of (take l.k l.end.place)) × Lying l.n l.end.ahead l.end.place l.initial.room l.room l.k l.m
+    (l.s ≡ slot_of (take l.k l.end.place)) × Lying l.n l.end.levels l.end.place l.initial.room l.room l.k l.m
