@@ -18,6 +18,13 @@ use Rattle.rows.proofs.Places.{has-none, has-joined, has_left, has_either, has_d
 use Rattle.rows.proofs.Taking.{lowest-there}
 use Rattle.policy.specs.Filling.{Limited, Entered, Filled}
 use Rattle.policy.specs.Judging.{stands}
+use Rattle.std.specs.Ordering.{ord_min, nat_cmp}
+use Rattle.std.proofs.lemmas.Grind.{common_steps}
+use Rattle.std.proofs.lemmas.Bool.Decides.{nat_tests}
+
+-- the lesser of two numbers, as the library says it
+pub lesser : (a b : ℕ) → ord_min nat_cmp a b ≡ min a b
+lesser a b = grind (arith, common_steps, nat_tests)
 
 -- ---- each in the row of its limit
 

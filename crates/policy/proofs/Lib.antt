@@ -1,5 +1,4 @@
 pub mod Adding
-pub mod Asking
 pub mod ByKind
 pub mod Chains
 pub mod Filling

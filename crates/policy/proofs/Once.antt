@@ -9,6 +9,7 @@ use Rattle.fields.specs.Spans.{bytes_of}
 use Rattle.record.specs.Certificate.{Certificate}
 use Rattle.record.specs.Parts.{head_of, extensions_of, certificate_of}
 use Rattle.record.specs.declared.head.Head.{Head}
+use Rattle.record.proofs.Meaning.{own-head}
 use Rattle.extensions.specs.declared.Extensions.{Extensions}
 use Rattle.record.specs.declared.Record.{Record}
 use Rattle.card.specs.declared.Card.{Card}
@@ -18,6 +19,9 @@ use Rattle.rules.specs.Records.{for_servers_at, for_host_at}
 use Rattle.rules.specs.declared.rules.Time.{Time}
 use Rattle.policy.specs.Sound.{between_sound, top_sound, leaf_sound_at, sound_places, place_limits, sound_roots, root_limits, sound_leaves, counted_places, judged_of}
 use Rattle.policy.specs.declared.judged.Judged.{Judged}
+
+-- a certificate with its own head is the certificate of its record
+pub ruleset own = (own-head)
 
 -- ---- by where it stands
 

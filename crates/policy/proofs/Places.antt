@@ -1,7 +1,7 @@
 -- A loop that judges each place once: it begins with no place (`judging_starts`), and each turn puts a place's limit, and the place itself
--- where it is sound (`judging_turn`); places that are not asked for are skipped (`judging_skips`); it ends with each place judged
--- (`judging_ends`). A row of some of the places that are judged, by their test or by their row (`row_of_judged`). For the proof of
--- `places_judged`, and for Asking.antt, which judges the roots.
+-- where it is sound (`judging_turn`); a place that is not asked for is passed over (`judging_passes`); it ends with each place judged
+-- (`judging_ends`). A row of some of the places that are judged, by their test or by their row (`row_of_judged`). For the proofs of
+-- `places_judged` and `roots_above`.
 use Prim.Native.Nat.{ℕ, zero, suc, ◌+◌, ◌<◌, ◌≤◌}
 use mathlib.Core.Bool.{Bool, true, false, cond, ◌&&◌}
 use mathlib.Core.List.{List}
@@ -27,20 +27,13 @@ module _ (test : ℕ → Bool) (limit : ℕ → ℕ) (most : ℕ) where
   judging_ends sound limits i n size j h k e =
       let q : i ≡ size = omega arith in (j.row ∙ ap (row_of test) q, j.list ∙ ap (λ m. listing most m limit) q)
 
-  -- places that fail and have no limit are passed over
-  pub judging_skips : (sound : ℕ) (limits : List ℕ) (i d : ℕ) → Judging test limit most sound limits i → i + d ≤ most
-      → ((k : ℕ) → i ≤ k → k < i + d → (test k ≡ false) × (limit k ≡ 0)) → Judging test limit most sound limits (i + d)
-  judging_skips sound limits i zero j h none = let e : i + 0 ≡ i = omega arith in rw e j
-  judging_skips sound limits i (suc d) j h none =
-      let e : i + suc d ≡ i + d + 1 = omega arith in
-      let at = none (i + d) (omega arith) (omega arith) in
-      let r = judging_skips sound limits i d j (omega arith) (λ k m l. none k m (omega arith)) in
-      rw e
-      (record { row = r.row ∙ sym (row_kept test (i + d) at.0); list = r.list ∙ listing-kept limit most (i + d) (omega arith) at.1 })
-
   module _ (sound : ℕ) (limits : List ℕ) (i : ℕ) (j : Judging test limit most sound limits i) (room : i < most) where
     limit_put : (l : ℕ) → l ≡ limit i → set limits i l ≡ listing most (i + 1) limit
     limit_put l e = rw (e, j.list) (listing-next limit most i room)
+
+    -- a place that fails and has no limit is passed over
+    pub judging_passes : test i ≡ false → limit i ≡ 0 → Judging test limit most sound limits (i + 1)
+    judging_passes t z = record { row = j.row ∙ sym (row_kept test i t); list = j.list ∙ listing-kept limit most i room z }
 
     pub judging_turn : (l r : ℕ) (b : Bool) → l ≡ limit i → test i ≡ b → r ≡ cond b (joined sound i) sound
         → Judging test limit most r (set limits i l) (i + 1)

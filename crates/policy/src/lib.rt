@@ -8,6 +8,6 @@ mod seating;
 mod standing;
 
 pub use ground::Ground;
-pub use judged::{Above, Between, Judged, judge};
+pub use judged::{Above, Between, Judged, Sound, judge};
 pub use seating::{Seats, seats_in, seats_of};
 pub use standing::{Standing, added, begun, over};

@@ -4,9 +4,10 @@ ghost use Rattle.places.specs.Limits.{bundle_most};
 ghost use Rattle.policy.specs.Filling.{Limited, Entered, Filled, Empty, FilledFrom};
 ghost use Rattle.policy.specs.Standing.{Seated};
 
-use crate::Judged;
-use card::{Bundle, Roots};
+use crate::{Judged, Sound};
+use card::{BundlePlace, RootPlace};
 use rows::{below, either, lowest, shared, with, without};
+use std::cmp::min;
 
 // Three rows for each seat: the roots that may stand above, the places that may come next and count, and those that may and don't. Seat 0
 // is none, seat 1 is before the leaf, and each after it is above the leaf and one certificate more that counts.
@@ -16,7 +17,7 @@ pub struct Seats {
 }
 
 impl Seats {
-    pub const MOST: usize = Bundle::MOST + 2;
+    pub const MOST: usize = BundlePlace::MOST + 2;
 
     // Where the rows of each kind begin.
     pub const ROOTS: usize = 0;
@@ -41,49 +42,48 @@ pub fn seats_of(judged: Judged, after: u8) -> Seats
 pub fn seats_in(rows: &mut [u64; Seats::ROWS], judged: Judged, after: u8)
     ensures { Seated judged after rows.new }
 {
-    let last = lesser(after as usize, Bundle::MOST - 1);
-    let tops = shared(judged.above.sound, below(Roots::MOST as u8));
-    let between = shared(judged.between.sound, below(Bundle::MOST as u8));
-    let counted = shared(between, judged.counted);
-    let others = without(between, judged.counted);
-    let roots = judged.above.limits;
-    let places = judged.between.limits;
+    let last = min(after as usize, BundlePlace::MOST - 1);
+    let tops = judged.above.among(below(RootPlace::MOST as u8));
+    let between = judged.between.among(below(BundlePlace::MOST as u8));
+    let counted = between.among(judged.counted);
+    let others = between.outside(judged.counted);
     *rows = [0u64; Seats::ROWS];
-    fill_from(rows, Seats::ROOTS + 2, last, tops, &roots);
-    fill_from(rows, Seats::COUNTED + 2, last, counted, &places);
-    fill_from(rows, Seats::OTHERS + 2, last, others, &places);
+    fill_from(rows, Seats::ROOTS + 2, last, &tops);
+    fill_from(rows, Seats::COUNTED + 2, last, &counted);
+    fill_from(rows, Seats::OTHERS + 2, last, &others);
     rows[Seats::COUNTED + 1] = judged.leaves;
 }
 
 // Fills the rows of a kind, which begin at `from`, and leaves the others as they are.
-fn fill_from(rows: &mut [u64], from: usize, last: usize, sound: u64, limits: &[u8])
+fn fill_from<const MOST: usize>(rows: &mut [u64], from: usize, last: usize, kind: &Sound<MOST>)
     requires empty { Empty from rows.old × (last < bundle_most) }
-    requires limited { Limited sound limits.now }
-    ensures { FilledFrom from last sound limits.now rows.old rows.new }
+    requires limited { Limited kind.now.sound kind.now.limits }
+    ensures { FilledFrom from last kind.now.sound kind.now.limits rows.old rows.new }
 {
-    fill(&mut rows[from..from + Bundle::MOST], last, sound, limits);
+    fill(&mut rows[from..from + BundlePlace::MOST], last, kind);
 }
 
 // Whoever may stand above so many certificates may stand above fewer: each is put in the last row where it may stand, and then handed on.
-fn fill(rows: &mut [u64], last: usize, sound: u64, limits: &[u8])
+fn fill<const MOST: usize>(rows: &mut [u64], last: usize, kind: &Sound<MOST>)
     requires rows_value { (rows.old ≡ replicate bundle_most 0) × (last < bundle_most) }
-    requires limited { Limited sound limits.now }
-    ensures { Filled last sound limits.now rows.new }
+    requires limited { Limited kind.now.sound kind.now.limits }
+    ensures { Filled last kind.now.sound kind.now.limits rows.new }
 {
-    enter(rows, last, sound, limits);
+    enter(rows, last, kind);
     hand_on(rows, last);
 }
 
 // Puts each in the row of its limit, or in the last row where its limit is past it.
-fn enter(rows: &mut [u64], last: usize, sound: u64, limits: &[u8])
+fn enter<const MOST: usize>(rows: &mut [u64], last: usize, kind: &Sound<MOST>)
     requires rows_value { (rows.old ≡ replicate bundle_most 0) × (last < bundle_most) }
-    requires limited { Limited sound limits.now }
-    ensures { Entered last sound limits.now rows.new }
+    requires limited { Limited kind.now.sound kind.now.limits }
+    ensures { Entered last kind.now.sound kind.now.limits rows.new }
 {
-    let mut rest = sound;
+    let limits = &kind.limits[..];
+    let mut rest = kind.sound;
     let mut i = lowest(rest);
     while (i as usize) < limits.len() {
-        let row = lesser(limits[i as usize] as usize, last);
+        let row = min(limits[i as usize] as usize, last);
         rows[row] = with(rows[row], i);
         rest = without(rest, with(0, i));
         i = lowest(rest);
@@ -95,18 +95,7 @@ fn hand_on(rows: &mut [u64], last: usize)
     requires { (length rows.old ≡ bundle_most) × (last < bundle_most) }
     ensures { (sound : ℕ) (limits : List ℕ) → Entered last sound limits rows.old → Filled last sound limits rows.new }
 {
-    let mut k = last;
-    while 0 < k {
-        rows[k - 1] = either(rows[k - 1], rows[k]);
-        k -= 1;
+    for k in (0..last).rev() {
+        rows[k] = either(rows[k], rows[k + 1]);
     }
-}
-
-fn lesser(a: usize, b: usize) -> usize
-    ensures { result ≡ min a b }
-{
-    if a < b {
-        return a;
-    }
-    b
 }

@@ -45,9 +45,9 @@ module _ {g : Places} {w : Reach} {st : List (List ℕ)} {k : ℕ} (U : Vain g w
   pub vain-more : {p : List ℕ} → top (pops g k st) ≡ p ∷ [] → ¬ Qualifies w p → Vain g w st (k + 1)
   vain-more e n = rw add-one (vain_suc e n)
 
-  module _ {seats ahead : List ℕ} {levels : List Level} {place : List ℕ} {row : ℕ} {here : Level} {d : ℕ} (S : Stands g seats st ahead levels place row here d k) {budget : ℕ} where
-    pub stop-refused : row ≡ 0 → d ≡ 0 → k ≤ budget
-        → Stopped g (Ends g w budget st) st (record { reply = reply.Refused k; len = 0; place = place; ahead = set ahead d row; depths = d + 1 })
+  module _ {seats : List ℕ} {levels : List Level} {place : List ℕ} {here : Level} {d : ℕ} (S : Stands g seats st levels place here d k) {budget : ℕ} where
+    pub stop-refused : here.ahead ≡ 0 → d ≡ 0 → k ≤ budget
+        → Stopped g (Ends g w budget st) st (record { reply = reply.Refused k; len = 0; place = place; levels = set levels d here; depths = d + 1 })
     stop-refused none z t = record {
       outcome = refused k;
       ends = (t, U, over-all S none z);
@@ -59,8 +59,8 @@ module _ {g : Places} {w : Reach} {st : List (List ℕ)} {k : ℕ} (U : Vain g w
       left = closed S;
     }
 
-    pub stop-exhausted : ¬ (row ≡ 0) → k ≤ budget → budget ≤ k
-        → Stopped g (Ends g w budget st) st (record { reply = reply.Exhausted k; len = 0; place = place; ahead = set ahead d row; depths = d + 1 })
+    pub stop-exhausted : ¬ (here.ahead ≡ 0) → k ≤ budget → budget ≤ k
+        → Stopped g (Ends g w budget st) st (record { reply = reply.Exhausted k; len = 0; place = place; levels = set levels d here; depths = d + 1 })
     stop-exhausted some t u = record {
       outcome = exhausted k;
       ends = (omega arith, U, (_, met S refl some));
@@ -73,10 +73,10 @@ module _ {g : Places} {w : Reach} {st : List (List ℕ)} {k : ℕ} (U : Vain g w
     }
 
   -- p was taken in the step before
-  pub stop-accepted : {seats ahead : List ℕ} {levels : List Level} {place : List ℕ} {row : ℕ} {here : Level} {d : ℕ} → Stands g seats st ahead levels place row here d (k + 1)
+  pub stop-accepted : {seats : List ℕ} {levels : List Level} {place : List ℕ} {here : Level} {d : ℕ} → Stands g seats st levels place here d (k + 1)
       → {p : List ℕ} → top (pops g k st) ≡ p ∷ [] → {budget : ℕ} → k < budget → {r : ℕ} → QualifiesBy w p r × ((i : ℕ) → QualifiesBy w p i → r ≤ i)
       → {len : ℕ} → len ≤ bundle_most → take len place ≡ p
-      → Stopped g (Ends g w budget st) st (record { reply = reply.Accepted (record { 0 = r }) (k + 1); len = len; place = place; ahead = set ahead d row; depths = d + 1 })
+      → Stopped g (Ends g w budget st) st (record { reply = reply.Accepted (record { 0 = r }) (k + 1); len = len; place = place; levels = set levels d here; depths = d + 1 })
   stop-accepted S {p} e b {r} (q, low) short shows = record {
     outcome = accepted p r (k + 1);
     ends = (k, add-one k, omega arith, U, e, q, low);
@@ -89,8 +89,8 @@ module _ {g : Places} {w : Reach} {st : List (List ℕ)} {k : ℕ} (U : Vain g w
   }
 
 -- what the walk's loop keeps
-pub record Going (g : Places) (w : Reach) (seats : List ℕ) (budget : ℕ) (st : List (List ℕ)) (ahead : List ℕ) (levels : List Level) (place : List ℕ) (row : ℕ) (here : Level) (d k : ℕ) : Type 0 where
-  pub stands : Stands g seats st ahead levels place row here d k
+pub record Going (g : Places) (w : Reach) (seats : List ℕ) (budget : ℕ) (st : List (List ℕ)) (levels : List Level) (place : List ℕ) (here : Level) (d k : ℕ) : Type 0 where
+  pub stands : Stands g seats st levels place here d k
   pub vain : Vain g w st k
   pub time : k ≤ budget
 
@@ -125,14 +125,14 @@ module _ (g : Places) (some : 0 < g.size) (w : Reach) where
 
 module _ {g : Places} (some : 0 < g.size) (few : g.size ≤ bundle_most) {w : Reach} {k : ℕ} {e : End} (S : Stopped g (Settles g w k) ((0 ∷ []) ∷ []) e)
   where
-    pub stopped_fits : length (waiting g.size e.ahead e.place e.depths) ≤ slots_of g.size
+    pub stopped_fits : length (waiting g.size e.levels e.place e.depths) ≤ slots_of g.size
     stopped_fits = rw S.left (stack-fits g some few (steps S.outcome))
 
     module _ {a : Answer} (replies : a.reply ≡ e.reply) (shows : a.path ≡ path_shown (take e.len e.place)) where
       says : a ≡ answering S.outcome
       says = by_parts S.outcome (replies ∙ S.says) (shows ∙ ap path_shown S.shows)
 
-      pub stopped_paused : {before after : List ℕ} → after ≡ holding g.size (waiting g.size e.ahead e.place e.depths) before → Paused g w k before after a
+      pub stopped_paused : {before after : List ℕ} → after ≡ holding g.size (waiting g.size e.levels e.place e.depths) before → Paused g w k before after a
       stopped_paused q = left_paused S.outcome S.ends says some few (rw S.left at q)
 
       pub stopped_searched : {before after : List ℕ} → after ≡ holding g.size [] before → Searched g w k before after a

@@ -17,7 +17,8 @@ use Rattle.order.specs.Listing.{◌among◌}
 use Rattle.order.specs.Slots.{slots_of}
 use Rattle.order.specs.Walk.{put, keep, down, snoc}
 use Rattle.rows.specs.Rows.{has}
-use Rattle.steps.specs.Parts.{path_of, offered, waiting}
+use Rattle.steps.specs.declared.walk.Level.{Level}
+use Rattle.steps.specs.Parts.{path_of, offered, level_at, waiting}
 use Rattle.reply.specs.Laid.{flat, holding}
 use Rattle.reply.specs.Slots.{slot_bytes, slot_of}
 use Rattle.reply.proofs.Slots.{length_slot, length-snoc, slot_child, length-flat, flat_append}
@@ -85,28 +86,28 @@ module _ (row : ℕ) (p : List ℕ) where
 
 -- ---- the depths
 
-module _ (n : ℕ) (ahead place : List ℕ) where
-  waiting-short : (d : ℕ) → length place ≡ bundle_most → d ≤ bundle_most → (q : List ℕ) → q among waiting n ahead place d → length q ≤ bundle_most
+module _ (n : ℕ) (levels : List Level) (place : List ℕ) where
+  waiting-short : (d : ℕ) → length place ≡ bundle_most → d ≤ bundle_most → (q : List ℕ) → q among waiting n levels place d → length q ≤ bundle_most
   unfolding waiting
   waiting-short zero l h q m = absurd (Memᴰ.not-nil m)
   waiting-short (suc d) l h q m = ⊎_elim
-      (λ a. offered-short (get_or ahead d 0) (take d place) (omega (arith, length-take-le d place (omega arith))) n q a)
+      (λ a. offered-short (level_at levels d).ahead (take d place) (omega (arith, length-take-le d place (omega arith))) n q a)
       (λ a. waiting-short d l (omega arith) q a)
-      (Memᴰ.append_cases (offered n (get_or ahead d 0) (take d place)) m)
+      (Memᴰ.append_cases (offered n (level_at levels d).ahead (take d place)) m)
 
-  pub waiting-flat : (d : ℕ) → length place ≡ bundle_most → d ≤ bundle_most → length (flat (waiting n ahead place d)) ≡ slot_bytes * length (waiting n ahead place d)
-  waiting-flat d l h = length-flat (waiting n ahead place d) (waiting-short d l h)
+  pub waiting-flat : (d : ℕ) → length place ≡ bundle_most → d ≤ bundle_most → length (flat (waiting n levels place d)) ≡ slot_bytes * length (waiting n levels place d)
+  waiting-flat d l h = length-flat (waiting n levels place d) (waiting-short d l h)
 
-  waiting_grows : (d k : ℕ) → length (waiting n ahead place d) ≤ length (waiting n ahead place (d + k))
+  waiting_grows : (d k : ℕ) → length (waiting n levels place d) ≤ length (waiting n levels place (d + k))
   unfolding waiting
-  waiting_grows d zero = rw add-zero (le_refl (length (waiting n ahead place d)))
+  waiting_grows d zero = rw add-zero (le_refl (length (waiting n levels place d)))
   waiting_grows d (suc k) =
-      rw add-suc (omega (arith, waiting_grows d k, length-append (offered n (get_or ahead (d + k) 0) (take (d + k) place)) (waiting n ahead place (d + k))))
+      rw add-suc (omega (arith, waiting_grows d k, length-append (offered n (level_at levels (d + k)).ahead (take (d + k) place)) (waiting n levels place (d + k))))
 
   -- the paths that wait at the first k depths lie in the first m slots of the room
   pub record Lying (start room : List ℕ) (k m : ℕ) : Type 0 where
-    pub size : m ≡ length (waiting n ahead place k)
-    pub held : room ≡ flat (waiting n ahead place k) ++ drop (slot_bytes * m) start
+    pub size : m ≡ length (waiting n levels place k)
+    pub held : room ≡ flat (waiting n levels place k) ++ drop (slot_bytes * m) start
     pub long : length room ≡ length start
 
   pub lying_none : (start : List ℕ) → Lying start start 0 0
@@ -115,19 +116,19 @@ module _ (n : ℕ) (ahead place : List ℕ) where
 
   module _ {start room : List ℕ} {k m : ℕ} (L : Lying start room k m) (b : k < bundle_most) (l : length place ≡ bundle_most) where
     -- there are slots for the depth k
-    pub room-more : (depths : ℕ) → k < depths → slot_bytes * length (waiting n ahead place depths) ≤ length start
-        → slot_bytes * (m + length (offered n (get_or ahead k 0) (take k place))) ≤ length room
+    pub room-more : (depths : ℕ) → k < depths → slot_bytes * length (waiting n levels place depths) ≤ length start
+        → slot_bytes * (m + length (offered n (level_at levels k).ahead (take k place))) ≤ length room
     room-more depths h f =
         let e : k + 1 + (depths - (k + 1)) ≡ depths = omega arith in
-        let g : length (waiting n ahead place (k + 1)) ≤ length (waiting n ahead place depths) =
-        subst (λ (x : ℕ). length (waiting n ahead place (k + 1)) ≤ length (waiting n ahead place x)) e (waiting_grows (k + 1) (depths - (k + 1))) in
-        omega (arith, ap length (waiting-last n ahead place k), length-append (offered n (get_or ahead k 0) (take k place)) (waiting n ahead place k), L.size, L.long)
+        let g : length (waiting n levels place (k + 1)) ≤ length (waiting n levels place depths) =
+        subst (λ (x : ℕ). length (waiting n levels place (k + 1)) ≤ length (waiting n levels place x)) e (waiting_grows (k + 1) (depths - (k + 1))) in
+        omega (arith, ap length (waiting-last n levels place k), length-append (offered n (level_at levels k).ahead (take k place)) (waiting n levels place k), L.size, L.long)
 
-    pub lying_more : {after : List ℕ} {r : ℕ} → r ≡ m + length (offered n (get_or ahead k 0) (take k place))
-        → after ≡ laid_out room m (flat (offered n (get_or ahead k 0) (take k place))) r → length after ≡ length room → Lying start after (k + 1) r
+    pub lying_more : {after : List ℕ} {r : ℕ} → r ≡ m + length (offered n (level_at levels k).ahead (take k place))
+        → after ≡ laid_out room m (flat (offered n (level_at levels k).ahead (take k place))) r → length after ≡ length room → Lying start after (k + 1) r
     lying_more {after} {r} z e len =
-        let st : List (List ℕ) = waiting n ahead place k in
-        let cs : List (List ℕ) = offered n (get_or ahead k 0) (take k place) in
+        let st : List (List ℕ) = waiting n levels place k in
+        let cs : List (List ℕ) = offered n (level_at levels k).ahead (take k place) in
         let fl : length (flat st) ≡ slot_bytes * m = waiting-flat k l (omega arith) ∙ omega (arith, L.size) in
         let t : take (slot_bytes * m) room ≡ flat st = ap (take (slot_bytes * m)) L.held ∙ take_at (flat st) (drop (slot_bytes * m) start) (slot_bytes * m) fl in
         let up : slot_bytes * m + (slot_bytes * r - slot_bytes * m) ≡ slot_bytes * r = omega arith in
@@ -136,18 +137,18 @@ module _ (n : ℕ) (ahead place : List ℕ) where
         ∙ ap (drop (slot_bytes * r - slot_bytes * m)) (ap (drop (slot_bytes * m)) L.held ∙ drop_at (flat st) (drop (slot_bytes * m) start) (slot_bytes * m) fl)
         ∙ drop-drop (slot_bytes * r - slot_bytes * m) (slot_bytes * m) start ∙ ap (λ (j : ℕ). drop j start) up in
         record {
-          size = z ∙ omega (arith, L.size, ap length (waiting-last n ahead place k), length-append cs st);
-          held = e ∙ rw (t, d, waiting-last n ahead place k, flat_append) (sym (append_assoc (flat st) (flat cs) (drop (slot_bytes * r) start)));
+          size = z ∙ omega (arith, L.size, ap length (waiting-last n levels place k), length-append cs st);
+          held = e ∙ rw (t, d, waiting-last n levels place k, flat_append) (sym (append_assoc (flat st) (flat cs) (drop (slot_bytes * r) start)));
           long = len ∙ L.long;
         }
 
   -- what lies there, and zeros above it up to the needed slots
-  pub lying_cleared : (before mid : List ℕ) {after : List ℕ} {m : ℕ} (depths : ℕ) → length place ≡ bundle_most → depths ≤ bundle_most → m ≡ length (waiting n ahead place depths)
-      → m ≤ slots_of n → mid ≡ flat (waiting n ahead place depths) ++ drop (slot_bytes * m) before
+  pub lying_cleared : (before mid : List ℕ) {after : List ℕ} {m : ℕ} (depths : ℕ) → length place ≡ bundle_most → depths ≤ bundle_most → m ≡ length (waiting n levels place depths)
+      → m ≤ slots_of n → mid ≡ flat (waiting n levels place depths) ++ drop (slot_bytes * m) before
       → after ≡ take (slot_bytes * m) mid ++ (replicate (slot_bytes * slots_of n - slot_bytes * m) 0 ++ drop (slot_bytes * slots_of n) mid)
-      → after ≡ holding n (waiting n ahead place depths) before
+      → after ≡ holding n (waiting n levels place depths) before
   lying_cleared before mid {after} {m} depths l few e fits h z =
-      let st : List (List ℕ) = waiting n ahead place depths in
+      let st : List (List ℕ) = waiting n levels place depths in
       let fl : length (flat st) ≡ slot_bytes * m = waiting-flat depths l few ∙ omega arith in
       let t : take (slot_bytes * m) mid ≡ flat st = ap (take (slot_bytes * m)) h ∙ take_at (flat st) (drop (slot_bytes * m) before) (slot_bytes * m) fl in
       let up : slot_bytes * m + (slot_bytes * slots_of n - slot_bytes * m) ≡ slot_bytes * slots_of n = omega arith in

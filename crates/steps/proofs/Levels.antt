@@ -90,59 +90,52 @@ offered-top (suc n) row i p y above w l = go (eqb n i) refl (λ k. offered-top n
 
 -- ---- the depths
 
-waiting-same : (n : ℕ) (o o' l l' : List ℕ) (d : ℕ) → ((k : ℕ) → k < d → get_or o k 0 ≡ get_or o' k 0) → ((k : ℕ) → k < d → take k l ≡ take k l')
+waiting-same : (n : ℕ) (o o' : List Level) (l l' : List ℕ) (d : ℕ) → ((k : ℕ) → k < d → level_at o k ≡ level_at o' k) → ((k : ℕ) → k < d → take k l ≡ take k l')
     → waiting n o l d ≡ waiting n o' l' d
 unfolding waiting
 waiting-same n o o' l l' zero h e = refl
 waiting-same n o o' l l' (suc d) h e =
     rw (h d (omega arith), e d (omega arith), waiting-same n o o' l l' d (λ k b. h k (omega arith)) (λ k b. e k (omega arith)))
 
-pub waiting-last : (n : ℕ) (o l : List ℕ) (d : ℕ) → waiting n o l (d + 1) ≡ offered n (get_or o d 0) (take d l) ++ waiting n o l d
+pub waiting-last : (n : ℕ) (o : List Level) (l : List ℕ) (d : ℕ) → waiting n o l (d + 1) ≡ offered n (level_at o d).ahead (take d l) ++ waiting n o l d
 unfolding waiting
 waiting-last n o l d = rw add-one
 
 -- what waits where row has the places to be taken at depth d
-abbrev pub stack_at : ℕ → List ℕ → List ℕ → ℕ → ℕ → List (List ℕ)
-stack_at n ahead place d row = offered n row (take d place) ++ waiting n ahead place d
-
--- the row and the level at the depth after p; the row fits its 64 bits, so that it has a highest place where it is not 0
-pub record RowAfter (n : ℕ) (seats p : List ℕ) (row : ℕ) (l : Level) : Type 0 where
-  pub after : LevelAfter n seats p row l
-  pub fits : row < 2 ^ 64
+abbrev pub stack_at : ℕ → List Level → List ℕ → ℕ → ℕ → List (List ℕ)
+stack_at n levels place d row = offered n row (take d place) ++ waiting n levels place d
 
 left-fits : (row taken : ℕ) → row < 2 ^ 64 → left row taken < 2 ^ 64
 unfolding left
 left-fits row taken f = xor_lt 64 row (bit_and row taken) f (omega (arith, and_le_l row taken))
 
 -- k steps from the stack st lead to this state
-pub record Stands (g : Places) (seats : List ℕ) (st : List (List ℕ)) (ahead : List ℕ) (levels : List Level) (place : List ℕ) (row : ℕ) (here : Level) (d k : ℕ) : Type 0 where
+pub record Stands (g : Places) (seats : List ℕ) (st : List (List ℕ)) (levels : List Level) (place : List ℕ) (here : Level) (d k : ℕ) : Type 0 where
   pub few : g.size ≤ bundle_most
-  pub la : length ahead ≡ bundle_most
   pub ll : length levels ≡ bundle_most
   pub lp : length place ≡ bundle_most
   pub deep : d < bundle_most
-  pub level : RowAfter g.size seats (take d place) row here
-  pub each : (j : ℕ) → j < d → RowAfter g.size seats (take j place) (get_or ahead j 0) (level_at levels j)
-  pub stack : pops g k st ≡ stack_at g.size ahead place d row
+  pub level : LevelAfter g.size seats (take d place) here
+  pub each : (j : ℕ) → j < d → LevelAfter g.size seats (take j place) (level_at levels j)
+  pub stack : pops g k st ≡ stack_at g.size levels place d here.ahead
   pub simple : (p : List ℕ) → p among pops g k st → Simple g p
 
-pub stands-start : {g : Places} {seats : List ℕ} {s : Depths} → g.size ≤ bundle_most → length s.ahead ≡ bundle_most → length s.place ≡ bundle_most
-    → ((j : ℕ) → get_or s.ahead j 0 < 2 ^ 64)
-    → Ready g seats s → Stands g seats (stack_of g.size s) s.ahead s.levels s.place (get_or s.ahead s.depth 0) (level_at s.levels s.depth) s.depth 0
-stands-start {g} {seats} {s} few la lp fits r = record {
+pub stands-start : {g : Places} {seats : List ℕ} {s : Depths} → g.size ≤ bundle_most → length s.place ≡ bundle_most
+    → Ready g seats s → Stands g seats (stack_of g.size s) s.levels s.place (level_at s.levels s.depth) s.depth 0
+stands-start {g} {seats} {s} few lp r = record {
   few = few;
-  la = la;
   ll = r.long;
   lp = lp;
   deep = r.deep;
-  level = record { after = r.each s.depth (omega arith); fits = fits s.depth };
-  each = λ j h. record { after = r.each j (omega arith); fits = fits j };
-  stack = waiting-last g.size s.ahead s.place s.depth;
+  level = r.each s.depth (omega arith);
+  each = λ j h. r.each j (omega arith);
+  stack = waiting-last g.size s.levels s.place s.depth;
   simple = r.simple;
 }
 
-pub same_level : {f f' : ℕ} {s s' : Standing} → f ≡ f' → s ≡ s' → ◌≡◌ {A = Level} (record { free = f; standing = s }) (record { free = f'; standing = s' })
-same_level f s = rw (f, s)
+pub same_level : {a a' f f' : ℕ} {s s' : Standing} → a ≡ a' → f ≡ f' → s ≡ s'
+    → ◌≡◌ {A = Level} (record { ahead = a; free = f; standing = s }) (record { ahead = a'; free = f'; standing = s' })
+same_level a f s = rw (a, f, s)
 
 -- ---- where a search begins
 
@@ -150,12 +143,12 @@ only-first : (j : ℕ) → has j (joined 0 0) ≡ eqb j 0
 only-first j = has-joined j 0 0 ∙ rw (has-none j)
 
 -- at the first depth the leaf alone is ahead
-module _ (n : ℕ) (ahead place : List ℕ) (some : 1 ≤ n) (leaf : get_or ahead 0 0 ≡ joined 0 0) where
-  pub first-stack : waiting n ahead place 1 ≡ (0 ∷ []) ∷ []
+module _ (n : ℕ) (levels : List Level) (place : List ℕ) (some : 1 ≤ n) (first : level_at levels 0 ≡ record { ahead = joined 0 0; free = below n; standing = begun }) where
+  pub first-stack : waiting n levels place 1 ≡ (0 ∷ []) ∷ []
   unfolding waiting
   first-stack =
       rw (
-        leaf,
+        first,
         offered-top n (joined 0 0) 0 [] (only-first 0) (λ j l. only-first j ∙ ne_eqb j 0 (λ (z : j ≡ 0). omega arith)) (omega arith) some,
         offered-none n (left (joined 0 0) (joined 0 0)) [] (λ j. has_dropped (joined 0 0) 0 (omega arith) j ∙ rw (only-first j) (clash (eqb j 0))),
       )
@@ -165,14 +158,15 @@ module _ (n : ℕ) (ahead place : List ℕ) (some : 1 ≤ n) (leaf : get_or ahea
       clash false = refl
 
   -- every place is free, and the path begins
-  pub first_ready : (seats : List ℕ) (levels : List Level) → level_at levels 0 ≡ record { free = below n; standing = begun } → length levels ≡ bundle_most → n ≤ bundle_most
-      → (rows : List ℕ) → Ready (places_by rows n) seats (record { place = place; ahead = ahead; levels = levels; depth = 0 })
+  pub first_ready : (seats : List ℕ) → length levels ≡ bundle_most → n ≤ bundle_most → joined 0 0 < 2 ^ 64
+      → (rows : List ℕ) → Ready (places_by rows n) seats (record { place = place; levels = levels; depth = 0 })
   unfolding added_all
-  first_ready seats levels level long few rows = record {
+  first_ready seats long few fits rows = record {
     long = long;
     deep = omega arith;
-    each = λ k h. let z : k ≡ 0 = omega arith in rw (z, leaf, level) (record {
+    each = λ k h. let z : k ≡ 0 = omega arith in rw (z, first) (record {
       within = λ j l. only-first j ∙ ne_eqb j 0 (λ (z : j ≡ 0). omega arith);
+      fits = fits;
       unused = λ j. has-below j n (omega arith) ∙ sym (and_yes (ltb j n));
       stands = refl;
     });
@@ -183,65 +177,68 @@ pop-simple : (g : Places) (s : List (List ℕ)) → ((q : List ℕ) → q among 
 pop-simple g [] h p m = h p m
 pop-simple g (q ∷ s) h p m = ⊎_elim (λ l. kid_simple g (h q (here refl)) l) (λ r. h p (there r)) (Memᴰ.append_cases (kids g q) m)
 
-module _ {g : Places} {seats : List ℕ} {st : List (List ℕ)} {ahead : List ℕ} {levels : List Level} {place : List ℕ} {row : ℕ} {level : Level} {d k : ℕ}
-    (S : Stands g seats st ahead levels place row level d k)
+module _ {g : Places} {seats : List ℕ} {st : List (List ℕ)} {levels : List Level} {place : List ℕ} {level : Level} {d k : ℕ}
+    (S : Stands g seats st levels place level d k)
   where
-    -- the row of this depth put back
-    pub closed : waiting g.size (set ahead d row) place (d + 1) ≡ pops g k st
+    -- the level of this depth put back
+    pub closed : waiting g.size (set levels d level) place (d + 1) ≡ pops g k st
     closed =
-        let same : waiting g.size (set ahead d row) place d ≡ waiting g.size ahead place d =
-        waiting-same g.size (set ahead d row) ahead place place d (λ j h. get_or-set_other ahead d j row 0 (λ (z : j ≡ d). omega arith)) (λ j h. refl) in
-        waiting-last g.size (set ahead d row) place d ∙ rw (get_or-set_same ahead d row 0 (omega (arith, S.la, S.deep)), same) (sym S.stack)
+        let same : waiting g.size (set levels d level) place d ≡ waiting g.size levels place d =
+        waiting-same g.size (set levels d level) levels place place d (λ j h. get_or-set_other levels d j level _ (λ (z : j ≡ d). omega arith)) (λ j h. refl) in
+        waiting-last g.size (set levels d level) place d ∙ rw (get_or-set_same levels d level _ (omega (arith, S.ll, S.deep)), same) (sym S.stack)
 
     -- ---- no place is left at this depth
 
-    module _ (none : row ≡ 0) where
-      over-there : pops g k st ≡ waiting g.size ahead place d
-      over-there = S.stack ∙ ap (λ (s : List (List ℕ)). s ++ waiting g.size ahead place d) (offered_zero g.size (take d place) none)
+    module _ (none : level.ahead ≡ 0) where
+      over-there : pops g k st ≡ waiting g.size levels place d
+      over-there = S.stack ∙ ap (λ (s : List (List ℕ)). s ++ waiting g.size levels place d) (offered_zero g.size (take d place) none)
 
       pub over-all : d ≡ 0 → pops g k st ≡ []
       unfolding waiting
-      over-all z = over-there ∙ ap (waiting g.size ahead place) z
+      over-all z = over-there ∙ ap (waiting g.size levels place) z
 
-      pub climbed : 0 < d → Stands g seats st ahead levels place (get_or ahead (d - 1) 0) (level_at levels (d - 1)) (d - 1) k
+      pub climbed : 0 < d → Stands g seats st levels place (level_at levels (d - 1)) (d - 1) k
       unfolding waiting
       climbed b =
           let up : d ≡ suc (d - 1) = omega arith in
           record {
             few = S.few;
-            la = S.la;
             ll = S.ll;
             lp = S.lp;
             deep = omega (arith, S.deep);
             level = S.each (d - 1) (omega arith);
             each = λ j h. S.each j (omega arith);
-            stack = over-there ∙ ap (waiting g.size ahead place) up;
+            stack = over-there ∙ ap (waiting g.size levels place) up;
             simple = S.simple;
           }
 
 -- ---- the highest place is taken
+
+-- a level where place i was taken
+abbrev pub taken : Level → ℕ → Level
+taken l i = record { ahead = left l.ahead (joined 0 i); free = l.free; standing = l.standing }
 
 pub but_either : (x y z : Bool) → (x && not y) && not z ≡ x && not (y || z)
 but_either true true z = refl
 but_either true false z = refl
 but_either false y z = refl
 
-module _ {g : Places} {seats : List ℕ} {st : List (List ℕ)} {ahead : List ℕ} {levels : List Level} {place : List ℕ} {row : ℕ} {level : Level} {d k : ℕ}
-    (S : Stands g seats st ahead levels place row level d k) {i : ℕ} (which : i ≡ highest row) (some : ¬ (row ≡ 0))
+module _ {g : Places} {seats : List ℕ} {st : List (List ℕ)} {levels : List Level} {place : List ℕ} {level : Level} {d k : ℕ}
+    (S : Stands g seats st levels place level d k) {i : ℕ} (which : i ≡ highest level.ahead) (some : ¬ (level.ahead ≡ 0))
   where
     taken_low : i < 64
-    taken_low = rw which (highest-place row (omega (arith, some)) S.level.fits)
+    taken_low = rw which (highest-place level.ahead (omega (arith, some)) S.level.fits)
 
-    taken-has : has i row ≡ true
-    taken-has = rw which (highest-has row (omega (arith, taken_low)))
+    taken-has : has i level.ahead ≡ true
+    taken-has = rw which (highest-has level.ahead (omega (arith, taken_low)))
 
     pub place_low : i < g.size
-    place_low = let h : ¬ (g.size ≤ i) = λ h. false≢true (sym (S.level.after.within i h) ∙ taken-has) in omega arith
+    place_low = let h : ¬ (g.size ≤ i) = λ h. false≢true (sym (S.level.within i h) ∙ taken-has) in omega arith
 
-    split : pops g k st ≡ snoc (take d place) i ∷ stack_at g.size ahead place d (left row (joined 0 i))
+    split : pops g k st ≡ snoc (take d place) i ∷ stack_at g.size levels place d (left level.ahead (joined 0 i))
     split =
-        S.stack ∙ ap (λ (s : List (List ℕ)). s ++ waiting g.size ahead place d)
-        (offered-top g.size row i (take d place) taken-has (λ j h. highest-above row (omega (arith, taken_low)) j (omega arith)) taken_low place_low)
+        S.stack ∙ ap (λ (s : List (List ℕ)). s ++ waiting g.size levels place d)
+        (offered-top g.size level.ahead i (take d place) taken-has (λ j h. highest-above level.ahead (omega (arith, taken_low)) j (omega arith)) taken_low place_low)
 
     -- the path that the next step takes
     pub met : top (pops g k st) ≡ snoc (take d place) i ∷ []
@@ -253,27 +250,25 @@ module _ {g : Places} {seats : List ℕ} {st : List (List ℕ)} {ahead : List �
     -- its roots
     pub roots_are : (issued : List ℕ) {after : Standing} {tops : ℕ} → after ≡ added seats level.standing i → tops ≡ common (over seats after) (get_or issued i 0)
         → tops ≡ roots_over issued seats (snoc (take d place) i)
-    roots_are issued a e = e ∙ rw (a, S.level.after.stands) (sym (over-more seats issued (take d place) i))
+    roots_are issued a e = e ∙ rw (a, S.level.stands) (sym (over-more seats issued (take d place) i))
 
     -- what does not change
 
     take-kept : (j : ℕ) → j ≤ d → take j (set place d i) ≡ take j place
     take-kept j h = take-set-le j place d i h
 
-    under_kept : (o : List ℕ) → ((j : ℕ) → j < d → get_or o j 0 ≡ get_or ahead j 0) → waiting g.size o (set place d i) d ≡ waiting g.size ahead place d
-    under_kept o h = waiting-same g.size o ahead (set place d i) place d h (λ j l. take-kept j (omega arith))
+    under_kept : (o : List Level) → ((j : ℕ) → j < d → level_at o j ≡ level_at levels j) → waiting g.size o (set place d i) d ≡ waiting g.size levels place d
+    under_kept o h = waiting-same g.size o levels (set place d i) place d h (λ j l. take-kept j (omega arith))
 
-    level_here : RowAfter g.size seats (take d (set place d i)) (left row (joined 0 i)) level
+    level_here : LevelAfter g.size seats (take d (set place d i)) (taken level i)
     level_here = rw (take-kept d (omega arith)) (record {
-      after = record {
-        within = λ j h. has_dropped row i taken_low j ∙ rw (S.level.after.within j h);
-        unused = S.level.after.unused;
-        stands = S.level.after.stands;
-      };
-      fits = left-fits row (joined 0 i) S.level.fits;
+      within = λ j h. has_dropped level.ahead i taken_low j ∙ rw (S.level.within j h);
+      fits = left-fits level.ahead (joined 0 i) S.level.fits;
+      unused = S.level.unused;
+      stands = S.level.stands;
     })
 
-    level_kept : (j : ℕ) → j < d → RowAfter g.size seats (take j (set place d i)) (get_or ahead j 0) (level_at levels j)
+    level_kept : (j : ℕ) → j < d → LevelAfter g.size seats (take j (set place d i)) (level_at levels j)
     level_kept j h = rw (take-kept j (omega arith)) (S.each j h)
 
     simple-after : (q : List ℕ) → q among pops g (suc k) st → Simple g q
@@ -285,7 +280,7 @@ module _ {g : Places} {seats : List ℕ} {st : List (List ℕ)} {ahead : List �
       unused-next : (j : ℕ) → has j (left level.free (joined 0 i)) ≡ ltb j g.size && not (used j (snoc (take d place) i))
       unused-next j =
           has_dropped level.free i taken_low j
-          ∙ rw (S.level.after.unused j, used-snoc j (take d place) i) (but_either (ltb j g.size) (used j (take d place)) (eqb j i))
+          ∙ rw (S.level.unused j, used-snoc j (take d place) i) (but_either (ltb j g.size) (used j (take d place)) (eqb j i))
 
       next-has : (j : ℕ) → has j next ≡ (ltb j g.size && not (used j (snoc (take d place) i))) && g.issued j i
       next-has j = ap (has j) is ∙ has-common j _ issuers ∙ ap₂ ◌&&◌ (unused-next j) (issued j)
@@ -296,7 +291,7 @@ module _ {g : Places} {seats : List ℕ} {st : List (List ℕ)} {ahead : List �
       next-kids : offered g.size next (snoc (take d place) i) ≡ kids g (snoc (take d place) i)
       next-kids = offered-kids g next (snoc (take d place) i) (λ j h. next-has j ∙ rw (lt-ltb j g.size h, last_snoc 0 (take d place) i))
 
-      popped : pops g (suc k) st ≡ offered g.size next (snoc (take d place) i) ++ stack_at g.size ahead place d (left row (joined 0 i))
+      popped : pops g (suc k) st ≡ offered g.size next (snoc (take d place) i) ++ stack_at g.size levels place d (left level.ahead (joined 0 i))
       popped = ap (pop g) split ∙ rw next-kids
 
       deeper : 0 < next → next < 2 ^ 64 → d + 1 < bundle_most
@@ -310,59 +305,54 @@ module _ {g : Places} {seats : List ℕ} {st : List (List ℕ)} {ahead : List �
 
       -- there are none
 
-      stayed' : next ≡ 0 → Stands g seats st ahead levels (set place d i) (left row (joined 0 i)) level d (suc k)
+      stayed' : next ≡ 0 → Stands g seats st levels (set place d i) (taken level i) d (suc k)
       stayed' z = record {
         few = S.few;
-        la = S.la;
         ll = S.ll;
         lp = length-set place d i ∙ S.lp;
         deep = S.deep;
         level = level_here;
         each = level_kept;
-        stack = popped ∙ rw (offered_zero g.size (snoc (take d place) i) z, take-kept d (omega arith), under_kept ahead (λ j h. refl));
+        stack = popped ∙ rw (offered_zero g.size (snoc (take d place) i) z, take-kept d (omega arith), under_kept levels (λ j h. refl));
         simple = simple-after;
       }
 
-      pub stayed : {rest : ℕ} → rest ≡ left row (joined 0 i) → next ≡ 0 → Stands g seats st ahead levels (set place d i) rest level d (k + 1)
+      pub stayed : {here : Level} → here ≡ taken level i → next ≡ 0 → Stands g seats st levels (set place d i) here d (k + 1)
       stayed l z = rw (l, add-one k) (stayed' z)
 
       -- they wait at a new depth
 
-      put_here : get_or (set ahead d (left row (joined 0 i))) d 0 ≡ left row (joined 0 i)
-      put_here = get_or-set_same ahead d (left row (joined 0 i)) 0 (omega (arith, S.la, S.deep))
+      put_here : level_at (set levels d (taken level i)) d ≡ (taken level i)
+      put_here = get_or-set_same levels d (taken level i) _ (omega (arith, S.ll, S.deep))
 
-      put-kept : (j : ℕ) → j < d → get_or (set ahead d (left row (joined 0 i))) j 0 ≡ get_or ahead j 0
-      put-kept j h = get_or-set_other ahead d j (left row (joined 0 i)) 0 (λ (z : j ≡ d). omega arith)
+      put-kept : (j : ℕ) → j < d → level_at (set levels d (taken level i)) j ≡ level_at levels j
+      put-kept j h = get_or-set_other levels d j (taken level i) _ (λ (z : j ≡ d). omega arith)
 
-      level_new : (j : ℕ) → j < d + 1 → (t : Bool) → eqb j d ≡ t
-          → RowAfter g.size seats (take j (set place d i)) (get_or (set ahead d (left row (joined 0 i))) j 0) (level_at (set levels d level) j)
-      level_new j h true e = rw (eqb-true j d e, put_here, get_or-set_same levels d level _ (omega (arith, S.ll, S.deep))) level_here
+      level_new : (j : ℕ) → j < d + 1 → (t : Bool) → eqb j d ≡ t → LevelAfter g.size seats (take j (set place d i)) (level_at (set levels d (taken level i)) j)
+      level_new j h true e = rw (eqb-true j d e, put_here) level_here
       level_new j h false e =
           let ne : j ≡ d → ⊥ = eqb-false j d e in
           let l : j < d = omega (arith, ne) in
-          rw (put-kept j l, get_or-set_other levels d j level _ ne) (level_kept j l)
+          rw (put-kept j l) (level_kept j l)
 
-      sank' : 0 < next → next < 2 ^ 64 → Stands g seats st (set ahead d (left row (joined 0 i))) (set levels d level) (set place d i) next (onward seats level i) (d + 1) (suc k)
+      sank' : 0 < next → next < 2 ^ 64 → Stands g seats st (set levels d (taken level i)) (set place d i) (onward seats (taken level i) i next) (d + 1) (suc k)
       unfolding onward
       sank' h f = record {
         few = S.few;
-        la = length-set ahead d (left row (joined 0 i)) ∙ S.la;
-        ll = length-set levels d level ∙ S.ll;
+        ll = length-set levels d (taken level i) ∙ S.ll;
         lp = length-set place d i ∙ S.lp;
         deep = deeper h f;
         level = rw path-is (record {
-          after = record {
-            within = next-within;
-            unused = unused-next;
-            stands = rw S.level.after.stands (sym (standing-more seats (take d place) i));
-          };
+          within = next-within;
           fits = f;
+          unused = unused-next;
+          stands = rw S.level.stands (sym (standing-more seats (take d place) i));
         });
         each = λ j l. level_new j l (eqb j d) refl;
-        stack = popped ∙ rw (path-is, waiting-last g.size (set ahead d (left row (joined 0 i))) (set place d i) d, put_here, take-kept d (omega arith), under_kept (set ahead d (left row (joined 0 i))) put-kept);
+        stack = popped ∙ rw (path-is, waiting-last g.size (set levels d (taken level i)) (set place d i) d, put_here, take-kept d (omega arith), under_kept (set levels d (taken level i)) put-kept);
         simple = simple-after;
       }
 
-      pub sank : {rest : ℕ} {after : Level} → rest ≡ left row (joined 0 i) → after ≡ onward seats level i → 0 < next → next < 2 ^ 64
-          → Stands g seats st (set ahead d rest) (set levels d level) (set place d i) next after (d + 1) (k + 1)
-      sank l a h f = rw (l, a, add-one k) (sank' h f)
+      pub sank : {here after : Level} → here ≡ taken level i → after ≡ onward seats here i next → 0 < next → next < 2 ^ 64
+          → Stands g seats st (set levels d here) (set place d i) after (d + 1) (k + 1)
+      sank l a h f = rw (a, l, add-one k) (sank' h f)

@@ -1,7 +1,7 @@
 -- What the private functions promise each other: the path of a slot; what is asked of the walk; what waits, by depths; a walk from any
 -- stack, and how it ends. A reader need not believe this file: what `search` and `paused` promise is reply/specs/Answer.antt, of the
 -- question's places and roots (question/specs/Question.antt).
-use Rattle.std.specs.Prelude.{false, not, ◌&&◌, List, [], ◌∷◌, ◌++◌, map, ◌≡◌, ℕ, zero, suc, ◌+◌, ◌≤◌, ◌<◌, ltb, length, get_or, take, drop}
+use Rattle.std.specs.Prelude.{false, not, ◌&&◌, List, [], ◌∷◌, ◌++◌, map, ◌≡◌, ℕ, zero, suc, ◌+◌, ◌^◌, ◌≤◌, ◌<◌, ltb, length, get_or, take, drop}
 use Rattle.places.specs.Limits.{bundle_most}
 use Rattle.order.specs.Listing.{◌among◌}
 use Rattle.order.specs.Paths.{Places, Simple}
@@ -30,35 +30,37 @@ roots_seated issued seats = record { count = 64; good = λ p r. has r (roots_ove
 unfoldable pub offered : ℕ → ℕ → List ℕ → List (List ℕ)
 offered n row p = map (snoc p) (keep (λ i. has i row) (down n))
 
--- what waits at the first d depths, the deepest first: at depth k the first k places, extended by those ahead there
-unfoldable pub waiting : ℕ → List ℕ → List ℕ → ℕ → List (List ℕ)
-waiting n ahead place zero = []
-waiting n ahead place (suc d) = offered n (get_or ahead d 0) (take d place) ++ waiting n ahead place d
-
 -- the level at depth k
 abbrev pub level_at : List Level → ℕ → Level
-level_at levels k = get_or levels k (record { free = 0; standing = fresh-standing })
+level_at levels k = get_or levels k (record { ahead = 0; free = 0; standing = fresh-standing })
 
--- at the depth after p: the row has no place from n on, those below n that p does not use are free, and the level has how p stands
-pub record LevelAfter (n : ℕ) (seats p : List ℕ) (row : ℕ) (l : Level) : Type 0 where
-  pub within : (j : ℕ) → n ≤ j → has j row ≡ false
+-- what waits at the first d depths, the deepest first: at depth k the first k places, extended by those ahead there
+unfoldable pub waiting : ℕ → List Level → List ℕ → ℕ → List (List ℕ)
+waiting n levels place zero = []
+waiting n levels place (suc d) = offered n (level_at levels d).ahead (take d place) ++ waiting n levels place d
+
+-- at the depth after p: no place from n on is ahead, and what is ahead fits its 64 bits, so that it has a highest place where it is not 0;
+-- those below n that p does not use are free, and the level has how p stands
+pub record LevelAfter (n : ℕ) (seats p : List ℕ) (l : Level) : Type 0 where
+  pub within : (j : ℕ) → n ≤ j → has j l.ahead ≡ false
+  pub fits : l.ahead < 2 ^ 64
   pub unused : (j : ℕ) → has j l.free ≡ ltb j n && not (used j p)
   pub stands : l.standing ≡ standing seats p
 
 -- the stack that a walk's state stands for
 abbrev pub stack_of : ℕ → Depths → List (List ℕ)
-stack_of n s = waiting n s.ahead s.place (s.depth + 1)
+stack_of n s = waiting n s.levels s.place (s.depth + 1)
 
 -- a state from which a walk can go on
 pub record Ready (g : Places) (seats : List ℕ) (s : Depths) : Type 0 where
   pub long : length s.levels ≡ bundle_most
   pub deep : s.depth < bundle_most
-  pub each : (k : ℕ) → k ≤ s.depth → LevelAfter g.size seats (take k s.place) (get_or s.ahead k 0) (level_at s.levels k)
+  pub each : (k : ℕ) → k ≤ s.depth → LevelAfter g.size seats (take k s.place) (level_at s.levels k)
   pub simple : (p : List ℕ) → p among stack_of g.size s → Simple g p
 
--- the level after one, where the path goes on by place i
-unfoldable pub onward : List ℕ → Level → ℕ → Level
-onward seats l i = record { free = left l.free (joined 0 i); standing = added seats l.standing i }
+-- the level after one, where the path goes on by place i, and may then go on by the next places
+unfoldable pub onward : List ℕ → Level → ℕ → ℕ → Level
+onward seats l i next = record { ahead = next; free = left l.free (joined 0 i); standing = added seats l.standing i }
 
 -- ---- a walk from any stack
 
@@ -82,4 +84,4 @@ pub record Stopped (g : Places) (P : Outcome → Type 0) (st : List (List ℕ)) 
   pub long : length e.place ≡ bundle_most
   pub shows : take e.len e.place ≡ shown outcome
   pub few : e.depths ≤ bundle_most
-  pub left : waiting g.size e.ahead e.place e.depths ≡ pops g (steps outcome) st
+  pub left : waiting g.size e.levels e.place e.depths ≡ pops g (steps outcome) st

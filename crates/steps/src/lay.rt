@@ -8,8 +8,8 @@ ghost use Rattle.reply.specs.Slots.{slot_bytes, slot_of};
 ghost use Rattle.steps.specs.Parts.{path_of, offered, waiting};
 
 use crate::room::{write_slot, zero_bytes};
+use crate::walk::End;
 use order::slots;
-use places::BundlePlace;
 use reply::Slot;
 use rows::has;
 
@@ -32,55 +32,39 @@ fn lay_row(room: &mut [u8], m: usize, s: [u8; Slot::BYTES], row: u64, n: u8) -> 
     ensures room { room.new ≡ take (slot_bytes * m) room.old ++ (flat (offered n row (path_of s)) ++ drop (slot_bytes * result) room.old) }
 {
     let mut top = m;
-    let mut i: u8 = 0;
-    while i < n {
+    for i in 0..n {
         if has(row, i) {
             put_child(room, top, s, i);
             top += 1;
         }
-        i += 1;
     }
     top
 }
 
-// Lays what waits at the first depths in the slots from the first on, and returns how many paths wait.
-fn lay(
-    room: &mut [u8],
-    n: u8,
-    ahead: [u64; BundlePlace::MOST],
-    place: [u8; BundlePlace::MOST],
-    depths: usize,
-) -> usize
-    requires depths_le_bundle_most { depths ≤ bundle_most }
-    requires depths_in_bounds { slot_bytes * length (waiting n ahead place depths) ≤ length room.old }
-    ensures count { result ≡ length (waiting n ahead place depths) }
-    ensures room { room.new ≡ flat (waiting n ahead place depths) ++ drop (slot_bytes * result) room.old }
+// Lays what waits at the end of a walk in the slots from the first on, and returns how many paths wait.
+fn lay(room: &mut [u8], n: u8, end: End) -> usize
+    requires depths_le_bundle_most { end.depths ≤ bundle_most }
+    requires depths_in_bounds { slot_bytes * length (waiting n end.levels end.place end.depths) ≤ length room.old }
+    ensures count { result ≡ length (waiting n end.levels end.place end.depths) }
+    ensures room { room.new ≡ flat (waiting n end.levels end.place end.depths) ++ drop (slot_bytes * result) room.old }
 {
     let mut s = [0u8; Slot::BYTES];
     let mut m = 0;
-    let mut k = 0;
-    while k < depths {
-        m = lay_row(room, m, s, ahead[k], n);
-        s[k + 1] = place[k];
+    for k in 0..end.depths {
+        m = lay_row(room, m, s, end.levels[k].ahead, n);
+        s[k + 1] = end.place[k];
         s[0] = (k + 1) as u8;
-        k += 1;
     }
     m
 }
 
-// Leaves what waits at the first depths in the needed slots, and zeros above it.
-pub(crate) fn leave(
-    room: &mut [u8],
-    n: u8,
-    ahead: [u64; BundlePlace::MOST],
-    place: [u8; BundlePlace::MOST],
-    depths: usize,
-)
-    requires n_le_bundle_most { (n ≤ bundle_most) × (depths ≤ bundle_most) }
-    requires depths_len_bound { (length (waiting n ahead place depths) ≤ slots_of n) × (slot_bytes * slots_of n ≤ length room.old) }
-    ensures { room.new ≡ holding n (waiting n ahead place depths) room.old }
+// Leaves what waits at the end of a walk in the needed slots, and zeros above it.
+pub(crate) fn leave(room: &mut [u8], n: u8, end: End)
+    requires n_le_bundle_most { (n ≤ bundle_most) × (end.depths ≤ bundle_most) }
+    requires depths_len_bound { (length (waiting n end.levels end.place end.depths) ≤ slots_of n) × (slot_bytes * slots_of n ≤ length room.old) }
+    ensures { room.new ≡ holding n (waiting n end.levels end.place end.depths) room.old }
 {
-    let waiting = lay(room, n, ahead, place, depths);
+    let waiting = lay(room, n, end);
     zero_bytes(
         room,
         Slot::BYTES * waiting,

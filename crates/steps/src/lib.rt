@@ -28,9 +28,7 @@ pub fn paused(room: &mut [u8], question: Question, budget: u64) -> Answer
         return Answer::stopped(stop);
     }
     let end = run(n, question.judged, budget);
-    let ahead = end.ahead;
-    let place = end.place;
-    leave(room, n, ahead, place, end.depths);
+    leave(room, n, end);
     answer_of(end)
 }
 

@@ -11,11 +11,7 @@ pub(crate) fn write_slot(room: &mut [u8], t: usize, s: [u8; Slot::BYTES])
     ensures { room.new ≡ paste room.old (slot_bytes * t) s slot_bytes }
 {
     let at = Slot::BYTES * t;
-    let mut j = 0;
-    while j < Slot::BYTES {
-        room[at + j] = s[j];
-        j += 1;
-    }
+    room[at..at + Slot::BYTES].copy_from_slice(&s);
 }
 
 // Zeros from byte a to byte e.
@@ -23,9 +19,5 @@ pub(crate) fn zero_bytes(room: &mut [u8], a: usize, e: usize)
     requires { (a ≤ e) × (e ≤ length room.old) }
     ensures { room.new ≡ take a room.old ++ (replicate (e - a) 0 ++ drop e room.old) }
 {
-    let mut j = a;
-    while j < e {
-        room[j] = 0;
-        j += 1;
-    }
+    room[a..e].fill(0);
 }

@@ -7,19 +7,21 @@ ghost use Rattle.question.specs.Question.{places_by, roots_by};
 ghost use Rattle.steps.specs.Parts.{Stopped};
 
 use crate::walk::{End, first, walk};
-use policy::{Judged, seats_of};
+use policy::{Ground, Judged, seats_of};
 use reply::{Answer, Path};
 
-// The search from the leaf alone. The rows are taken out once, so that a step copies none.
+// The search from the leaf alone.
 pub(crate) fn run(n: u8, judged: Judged, budget: u64) -> End
     requires { (1 ≤ n) × (n ≤ bundle_most) }
     ensures { Stopped (places_by judged.issuing.bundle n) (Settles (places_by judged.issuing.bundle n) (roots_by judged) budget) ((0 ∷ []) ∷ []) result }
 {
-    let issuing = judged.issuing;
-    let rows = issuing.bundle;
-    let roots = issuing.roots;
-    let seats = seats_of(judged, n - 1).rows;
-    walk(first(n), n, &rows, &roots, &seats, budget)
+    let seats = seats_of(judged, n - 1);
+    let ground = Ground {
+        rows: &judged.issuing.bundle,
+        roots: &judged.issuing.roots,
+        seats: &seats.rows,
+    };
+    walk(first(n), n, ground, budget)
 }
 
 // What is answered: the reply, and the path of the first so many places.
@@ -27,10 +29,8 @@ pub(crate) fn answer_of(end: End) -> Answer
     ensures reply { result.reply ≡ end.reply }
     ensures path { result.path ≡ path_shown (take end.len end.place) }
 {
-    let reply = end.reply;
-    let place = end.place;
     Answer {
-        reply,
-        path: Path::of(place, end.len),
+        reply: end.reply,
+        path: Path::of(end.place, end.len),
     }
 }

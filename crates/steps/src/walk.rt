@@ -8,23 +8,24 @@ ghost use Rattle.rows.specs.Rows.{joined, left, common, highest};
 ghost use Rattle.steps.specs.Parts.{roots_seated, stack_of, Ready, onward, Ends, Stopped};
 
 use places::{BundlePlace, RootPlace};
-use policy::{Seats, Standing, added, begun, over};
+use policy::{Ground, Seats, Standing, added, begun, over};
 use reply::Reply;
 use rows::{below, highest, lowest, shared, with, without};
 
-// What a walk keeps of a depth beside the places that are still to be taken there: the places that the path before leaves free, and how
-// that path stands.
+// What a walk keeps of a depth: the places that are still to be taken there, those that the path before leaves free, and how that path
+// stands.
 #[derive(Clone, Copy)]
 pub(crate) struct Level {
+    pub(crate) ahead: u64,
     pub(crate) free: u64,
     pub(crate) standing: Standing,
 }
 
-// Where a walk stands: its depth, the places taken before it, and for each depth up to it the places ahead and the level.
+// Where a walk stands: its depth, the places taken before it, and a level for each depth up to it. The places are an array of their own,
+// since a path is shown by it as it stands.
 #[derive(Clone, Copy)]
 pub(crate) struct Depths {
     pub(crate) place: [u8; BundlePlace::MOST],
-    pub(crate) ahead: [u64; BundlePlace::MOST],
     pub(crate) levels: [Level; BundlePlace::MOST],
     pub(crate) depth: usize,
 }
@@ -35,7 +36,7 @@ pub(crate) struct End {
     pub(crate) reply: Reply,
     pub(crate) len: usize,
     pub(crate) place: [u8; BundlePlace::MOST],
-    pub(crate) ahead: [u64; BundlePlace::MOST],
+    pub(crate) levels: [Level; BundlePlace::MOST],
     pub(crate) depths: usize,
 }
 
@@ -45,14 +46,13 @@ pub(crate) fn first(n: u8) -> Depths
     ensures ready { (rows seats : List ℕ) → Ready (places_by rows n) seats result }
     ensures leaf { stack_of n result ≡ (0 ∷ []) ∷ [] }
 {
-    let standing = begun();
     let level = Level {
+        ahead: with(0, 0),
         free: below(n),
-        standing,
+        standing: begun(),
     };
     Depths {
         place: [0u8; BundlePlace::MOST],
-        ahead: [with(0, 0); BundlePlace::MOST],
         levels: [level; BundlePlace::MOST],
         depth: 0,
     }
@@ -76,8 +76,7 @@ fn children(level: Level, i: u8, issuers: u64) -> u64
 fn standing_by(level: Level, i: u8, seats: &[u64; Seats::ROWS]) -> Standing
     ensures { result ≡ added seats.now level.standing i }
 {
-    let before = level.standing;
-    added(seats, before, i)
+    added(seats, level.standing, i)
 }
 
 // The roots by which a path qualifies that stands so, and whose last place these roots issued.
@@ -87,87 +86,78 @@ fn roots_over(standing: Standing, issuers: u64, seats: &[u64; Seats::ROWS]) -> u
     shared(over(seats, standing), issuers)
 }
 
-// The level after one, where the path goes on by place i and then stands so.
-fn onward(level: Level, i: u8, standing: Standing) -> Level
-    ensures { (seats : List ℕ) → standing ≡ added seats level.standing i → result ≡ onward seats level i }
+// The level after one, where the path goes on by place i, then stands so, and may go on by the next places.
+fn onward(level: Level, i: u8, standing: Standing, next: u64) -> Level
+    ensures { (seats : List ℕ) → standing ≡ added seats level.standing i → result ≡ onward seats level i next }
 {
-    let free = without(level.free, with(0, i));
-    Level { free, standing }
+    Level {
+        ahead: next,
+        free: without(level.free, with(0, i)),
+        standing,
+    }
 }
 
 // The walk from where it stands on.
-pub(crate) fn walk(
-    from: Depths,
-    n: u8,
-    rows: &[u64; BundlePlace::MOST],
-    roots: &[u64; BundlePlace::MOST],
-    seats: &[u64; Seats::ROWS],
-    budget: u64,
-) -> End
-    requires { (n ≤ bundle_most) × Ready (places_by rows.now n) seats.now from }
-    ensures { Stopped (places_by rows.now n) (Ends (places_by rows.now n) (roots_seated roots.now seats.now) budget (stack_of n from)) (stack_of n from) result }
+pub(crate) fn walk(from: Depths, n: u8, ground: Ground, budget: u64) -> End
+    requires { (n ≤ bundle_most) × Ready (places_by ground.rows.now n) ground.seats.now from }
+    ensures { Stopped (places_by ground.entry.rows.now n) (Ends (places_by ground.entry.rows.now n) (roots_seated ground.entry.roots.now ground.entry.seats.now) budget (stack_of n from)) (stack_of n from) result }
 {
-    let mut ahead = from.ahead;
     let mut levels = from.levels;
     let mut place = from.place;
     let mut d = from.depth;
-    let mut row = ahead[d];
     let mut here = levels[d];
     let mut steps = 0;
     loop {
-        if row == 0 {
+        if here.ahead == 0 {
             if d == 0 {
-                ahead[d] = row;
-                return stopped(Reply::Refused { steps }, 0, place, ahead, d);
+                levels[d] = here;
+                return stopped(Reply::Refused { steps }, 0, place, levels, d);
             }
             d -= 1;
-            row = ahead[d];
             here = levels[d];
             continue;
         }
         if budget <= steps {
-            ahead[d] = row;
-            return stopped(Reply::Exhausted { steps }, 0, place, ahead, d);
+            levels[d] = here;
+            return stopped(Reply::Exhausted { steps }, 0, place, levels, d);
         }
         steps += 1;
-        let i = next_place(row);
+        let i = next_place(here.ahead);
         place[d] = i;
-        row = without(row, with(0, i));
-        let next = children(here, i, rows[i as usize]);
-        let standing = standing_by(here, i, seats);
-        let tops = roots_over(standing, roots[i as usize], seats);
+        here.ahead = without(here.ahead, with(0, i));
+        let next = children(here, i, ground.rows[i as usize]);
+        let standing = standing_by(here, i, ground.seats);
+        let tops = roots_over(standing, ground.roots[i as usize], ground.seats);
         let len = d + 1;
         if next != 0 {
-            ahead[d] = row;
             levels[d] = here;
-            here = onward(here, i, standing);
-            row = next;
+            here = onward(here, i, standing, next);
             d = len;
         }
         if tops != 0 {
             let root = RootPlace(lowest(tops));
-            ahead[d] = row;
-            return stopped(Reply::Accepted { root, steps }, len, place, ahead, d);
+            levels[d] = here;
+            return stopped(Reply::Accepted { root, steps }, len, place, levels, d);
         }
     }
 }
 
-// Stopped at a depth, whose row was put back among the others.
+// Stopped at a depth, whose level was put back among the others.
 fn stopped(
     reply: Reply,
     len: usize,
     place: [u8; BundlePlace::MOST],
-    ahead: [u64; BundlePlace::MOST],
+    levels: [Level; BundlePlace::MOST],
     depth: usize,
 ) -> End
     requires { depth < bundle_most }
-    ensures { result ≡ record { reply = reply; len = len; place = place; ahead = ahead; depths = depth + 1 } }
+    ensures { result ≡ record { reply = reply; len = len; place = place; levels = levels; depths = depth + 1 } }
 {
     End {
         reply,
         len,
         place,
-        ahead,
+        levels,
         depths: depth + 1,
     }
 }

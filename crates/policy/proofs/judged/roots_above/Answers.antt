@@ -1,50 +1,46 @@
 -- `roots_above` answers which of the roots that are asked for may stand above, and the limit of each of them, whatever the file is: the numbers are
--- in the records. The invariant: i is the lowest of the rest, and those before it are judged. The measure: i grows.
-use native.Mathlib.Omega.{arith}
-use mathlib.Core.Bool.{true, false}
-use mathlib.Core.Path.{sym, ap, ◌∙◌}
+-- in the records. The invariant: the places below i are judged where they are asked for.
+use Rattle.std.proofs.Common.{◌≡◌, ◌<◌, true, false, refl, sym, ap, ◌∙◌, arith, rules}
 use Rattle.places.specs.Limits.{roots_most}
 use Rattle.record.specs.Parts.{certificate_of}
 use Rattle.record.proofs.Meaning.{own-head}
 use Rattle.certificates.proofs.Records.{size-within}
-use Rattle.rows.specs.Rows.{left, lowest}
-use Rattle.rows.proofs.Taking.{lowest_grows}
+use Rattle.rows.specs.Rows.{has}
 use Rattle.rules.specs.Limits.{limit_of}
 use Rattle.policy.specs.Sound.{top_sound, sound_roots, root_limits}
-use Rattle.policy.proofs.Asking.{asking_starts, asking_turn, asking_ends}
-use Rattle.policy.proofs.judged.roots_above.Invariants.{few}
+use Rattle.policy.proofs.Places.{judging_starts, judging_passes, judging_turn, judging_ends}
 use Rattle.policy.proofs.judged.roots_above.Goals as goal
-use Rattle.policy.proofs.judged.roots_above.Goals.{then-top_sound, else-top_sound}
+use Rattle.policy.proofs.judged.roots_above.Goals.{After-has, then-has, else-has}
+
+room : (c : After-has) → c.loop-i.i < roots_most
+room c = omega (arith, c.size-i-end.ensures, size-within roots_most c.args.roots.count)
 
 pub loop-i-init : goal.loop-i-init
-loop-i-init c = (rw c.size-n.ensures (size-within roots_most _), c.lowest-i.ensures, asking_starts _ _ _ roots_most few _)
+loop-i-init c = let none = c.none-above.ensures in rw (none.0, none.1) (judging_starts _ _ roots_most)
 
-pub loop-i-smaller : goal.loop-i-smaller
-loop-i-smaller c =
-    let l = c.loop-i in
-    let rest = c.without-rest.ensures ∙ ap (left l.rest) c.with.ensures in
-    omega (arith, lowest_grows l.rest l.i l.invariant.1 (omega arith), ap lowest rest, c.lowest-i-in-loop-i.ensures)
+pub put-requires : goal.put-requires
+put-requires c = (search rules, room (goal.at.put-requires c).After-has)
 
 pub loop-i-preserved : goal.loop-i-preserved
 loop-i-preserved c =
     let a = c.args in
     let s = a.file.now in
+    let i = c.loop-i.i in
     let j = c.loop-i.invariant in
-    let own = own-head _ _ s c.head-head.ensures ∙ ap (λ r. certificate_of r s) c.record-record.ensures in
-    let limit = c.limit.ensures ∙ ap limit_of own in
-    let test = sym (c.top_sound.ensures _ s ∙ ap (top_sound a.time) own) in
-    let rest = c.without-rest.ensures ∙ ap (left c.loop-i.rest) c.with.ensures in (
-      j.0,
-      c.lowest-i-in-loop-i.ensures,
-      rw rest
-          (elim c.if-top_sound.branch [
-            | then-top_sound w ↦ asking_turn _ _ _ _ few _ _ _ _ j.2 j.0 _ j.1 c.loop-i-test.true _ _ true limit (test ∙ w.if-top_sound.true) (w.sound-is ∙ w.with-sound.ensures)
-            | else-top_sound w ↦ asking_turn _ _ _ _ few _ _ _ _ j.2 j.0 _ j.1 c.loop-i-test.true _ _ false limit (test ∙ w.if-top_sound.false) w.sound-is
-          ]),
-    )
+    let fits = room (goal.at.loop-i-preserved c).After-has in
+    elim c.if-has.branch [
+      | then-has w ↦
+          (let asked : has i a.asked ≡ true = sym c.has.ensures ∙ w.if-has.true in
+          let own = own-head _ _ s w.head-head.ensures ∙ ap (λ r. certificate_of r s) w.record-record.ensures in
+          let limit = w.limit.ensures ∙ ap limit_of own in
+          let test = sym (w.top_sound.ensures _ s ∙ ap (top_sound a.time) own) in
+          rw (w.above-is, w.put.ensures.sound, w.put.ensures.limits) (judging_turn _ _ _ _ _ i j fits _ _ w.top_sound.result (rw asked limit) (rw asked test) refl))
+      | else-has w ↦
+          (let no : has i a.asked ≡ false = sym c.has.ensures ∙ w.if-has.false in
+          rw w.above-is (judging_passes _ _ _ _ _ i j fits (rw no) (rw no)))
+    ]
 
 pub returns : goal.returns
 unfolding sound_roots root_limits
 returns c =
-    let j = c.loop-i.invariant in
-    asking_ends _ _ _ _ few _ _ _ _ j.2 j.0 _ j.1 c.loop-i-test.false _ c.size-n.ensures
+    judging_ends _ _ _ _ _ c.loop-i.i c.size-i-end.result _ c.loop-i.invariant (omega arith) (omega arith) c.size-i-end.ensures

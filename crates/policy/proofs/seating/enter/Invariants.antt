@@ -7,7 +7,7 @@ use Rattle.policy.proofs.Filling.{Entering}
 use Rattle.policy.proofs.seating.enter.Given as goal
 
 abbrev pub invariant-loop-i : goal.invariant-loop-i
-invariant-loop-i l = (l.i ≡ lowest l.rest) × Entering l.last l.sound l.limits l.rest l.rows
+invariant-loop-i g l = (l.i ≡ lowest l.rest) × Entering l.last l.kind.sound l.kind.limits l.rest l.rows
 
 abbrev pub decreases-loop-i : goal.decreases-loop-i
-decreases-loop-i l = 64 - l.i
+decreases-loop-i g l = 64 - l.i

@@ -2,5 +2,5 @@
 use Rattle.policy.proofs.seating.fill.Goals as goal
 
 pub returns : goal.returns
-returns c =
+returns g c =
     c.hand_on.ensures _ _ c.enter.ensures

@@ -1,18 +1,18 @@
 -- `fill_from` lends the rows of a kind to `fill` and puts them back.
 use native.Mathlib.Omega.{arith}
+use borrow.Author.Rules.{rules}
 use Prim.Native.Nat.{◌+◌, ◌-◌}
 use mathlib.Core.Path.{◌≡◌}
 use Rattle.places.specs.Limits.{bundle_most}
 use Rattle.policy.proofs.ByKind.{kind_lent, kind_filled}
 use Rattle.policy.proofs.seating.fill_from.Goals as goal
 
-pub fill-requires-clause-rows_value : goal.fill-requires-clause-rows_value
-fill-requires-clause-rows_value c = let size : c.args.from + bundle_most - c.args.from ≡ bundle_most = omega arith in ((rw size (kind_lent _ _ c.requires.empty.0), c.requires.empty.1))
-
-pub fill-requires-clause-limited : goal.fill-requires-clause-limited
-fill-requires-clause-limited c = let size : c.args.from + bundle_most - c.args.from ≡ bundle_most = omega arith in (c.requires.limited)
+pub fill-requires : goal.fill-requires
+fill-requires g c =
+    let size : c.args.from + bundle_most - c.args.from ≡ bundle_most = omega arith in
+    (search rules, ((rw size (kind_lent _ _ c.requires.empty.0), c.requires.empty.1), c.requires.limited))
 
 pub returns : goal.returns
-returns c =
+returns g c =
     let size : c.args.from + bundle_most - c.args.from ≡ bundle_most = omega arith in
     rw size (kind_filled _ _ c.requires.empty.0 _ _ _ _ c.fill.ensures)

@@ -22,7 +22,7 @@ fewer c = child_below c.args.row (path_of c.args.s) c.args.n c.requires.s_value.
 
 pub loop-i-init : goal.loop-i-init
 unfolding offered flat
-loop-i-init c = (omega arith, (omega arith, (sym (take-append-drop (slot_bytes * c.args.m) c.args.room.now), refl)))
+loop-i-init c = (omega arith, sym (take-append-drop (slot_bytes * c.args.m) c.args.room.now), refl)
 
 pub put_child-requires : goal.put_child-requires
 put_child-requires c =
@@ -43,29 +43,24 @@ loop-i-preserved c =
           (let y : has l.i a.row ≡ true = sym c.has.ensures ∙ w.if-has.true in
           let r : c.if-has.room ≡ paste l.room (slot_bytes * l.top) (slot_of (snoc (path_of a.s) l.i)) slot_bytes =
           w.room-is ∙ w.put_child.ensures ∙ ap (λ (k : List ℕ). paste l.room (slot_bytes * l.top) k slot_bytes) (slot_next a.s l.i c.requires.s_value.0 c.requires.s_value.1) in (
-            omega arith,
-            (
-              w.top-is ∙ omega (arith, l.invariant.1.0, ap length (offered_yes a.row (path_of a.s) l.i y)),
-              (
-                r ∙ rw w.top-is (child_room a.row (path_of a.s) a.n c.requires.s_value.1 l.i (omega arith) y a.room.now l.room a.m l.top c.requires.s_in_bounds l.invariant.1.0 l.invariant.1.1.0),
-                ap length w.room-is ∙ w.put_child.auto.room ∙ l.invariant.1.1.1,
-              ),
-            ),
+            w.top-is ∙ omega (arith, l.invariant.0, ap length (offered_yes a.row (path_of a.s) l.i y)),
+            r ∙ rw w.top-is (child_room a.row (path_of a.s) a.n c.requires.s_value.1 l.i (omega arith) y a.room.now l.room a.m l.top c.requires.s_in_bounds l.invariant.0 l.invariant.1),
+            ap length w.room-is ∙ w.put_child.auto.room ∙ l.invariant.2,
           ))
       | else-has w ↦
           (let e = offered_no a.row (path_of a.s) l.i (sym c.has.ensures ∙ w.if-has.false) in
-          (omega arith, (w.top-is ∙ rw e l.invariant.1.0, (w.room-is ∙ rw (e, w.top-is) l.invariant.1.1.0, ap length w.room-is ∙ l.invariant.1.1.1))))
+          (w.top-is ∙ rw e l.invariant.0, w.room-is ∙ rw (e, w.top-is) l.invariant.1, ap length w.room-is ∙ l.invariant.2))
     ]
 
 pub shape_of-room : goal.shape_of-room
-shape_of-room c = c.loop-i.invariant.1.1.1
+shape_of-room c = c.loop-i.invariant.2
 
 pub returns-clause-count : goal.returns-clause-count
 returns-clause-count c =
     let l = c.loop-i in
-    let e : l.i ≡ c.args.n = omega arith in (rw (← e) l.invariant.1.0)
+    let e : l.i ≡ c.args.n = omega arith in (rw (← e) l.invariant.0)
 
 pub returns-clause-room : goal.returns-clause-room
 returns-clause-room c =
     let l = c.loop-i in
-    let e : l.i ≡ c.args.n = omega arith in (rw (← e) l.invariant.1.1.0)
+    let e : l.i ≡ c.args.n = omega arith in (rw (← e) l.invariant.1)

@@ -8,4 +8,4 @@ walk-requires c =
 
 pub returns : goal.returns
 returns c =
-    settled c.args.judged c.args.n c.requires.0 c.requires.1 _ c.seats_of.ensures (rw c.first.ensures.leaf at c.walk.ensures)
+    settled c.args.judged c.args.n c.requires.0 c.requires.1 _ c.seats_of-seats.ensures (rw c.first.ensures.leaf at c.walk.ensures)
