@@ -62,7 +62,8 @@ loop-rest-preserved c =
           (ap (λ (r : List (List ℕ)). r ++ i.done) (lowest_left k) ∙ append_assoc (children (left c.loop-rest.rest (joined 0 (lowest c.loop-rest.rest))) p) (snoc p (lowest c.loop-rest.rest) ∷ []) i.done);
       top = omega (arith, i.top);
       fits = c.without-rest.type_inv;
-      laid = rw (c.push.ensures, c.child.ensures, c.lowest-i.ensures, i.laid, i.top) (laid_more c.args.at c.args.records.now i.done (snoc p (lowest c.loop-rest.rest)) (omega (arith, next_record k, i.top)));
+      laid = c.push.ensures ∙ rw (c.child.ensures, c.lowest-i.ensures, i.laid, i.top)
+          (laid_more c.args.at c.args.records.now i.done (snoc p (lowest c.loop-rest.rest)) (omega (arith, next_record k, i.top)));
     }
 
 -- none are left
