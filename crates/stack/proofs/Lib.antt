@@ -1,15 +1,9 @@
 pub mod Agree
 pub mod Bytes
-pub mod Clearing
 pub mod Frauds
 pub mod Held
-pub mod Here
-pub mod Left
-pub mod Look
-pub mod Moved
 pub mod Ran
 pub mod Rows
+pub mod Seen
 pub mod Shown
-pub mod Spread
-pub mod Taken
-pub mod Turns
+pub mod Steps

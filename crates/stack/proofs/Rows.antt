@@ -1,20 +1,19 @@
--- The children that a row offers: the lowest is the last of them (`offered-lowest`), and there are no more than places (`offered-few`).
--- For Turns.antt; the children: `offered` of steps/specs/Parts.antt, with its laws in steps/proofs/Levels.antt.
-use mathlib.Core.Bool.{Bool, true, false, not, ◌&&◌, false≢true}
+-- The children that a row offers: the lowest is the last of them (`children-lowest`), and there are none past the row's places
+-- (`offered_wide`). For `spread` and `look`; the children: `offered` of steps/specs/Parts.antt, with its laws in steps/proofs/Levels.antt.
+use mathlib.Core.Bool.{Bool, true, false, not, ◌&&◌}
 use mathlib.Core.List.{List, [], ◌∷◌, ◌++◌, map}
-use mathlib.Core.Path.{◌≡◌, refl, sym, ap, ◌∙◌}
+use mathlib.Core.Path.{◌≡◌, refl, ap, ◌∙◌}
 use Prim.Native.Nat.{ℕ, zero, suc, ◌^◌, ◌≤◌, ◌<◌}
-use native.Mathlib.Nat.{le_refl}
 use native.Mathlib.Omega.{arith}
-use borrow.Author.Tests.{eqb-true, eqb-false}
-use lib.Dec.{eqb}
-use lib.ListN.{length}
+use borrow.Author.Tests.{eqb-true, eqb-false, ltb-true, ltb-false}
+use lib.Dec.{eqb, ltb}
 use Rattle.order.specs.Walk.{put, keep, down, snoc}
 use Rattle.rows.specs.Rows.{has, joined, left, lowest}
 use Rattle.rows.proofs.Places.{has_dropped, lowest_least}
 use Rattle.steps.specs.Parts.{offered}
 use Rattle.steps.proofs.Least.{lowest-place}
 use Rattle.steps.proofs.Levels.{and_yes, and_no}
+use Rattle.stack.specs.Stacked.{children}
 
 keep-none : (f : ℕ → Bool) (n : ℕ) → ((j : ℕ) → j < n → f j ≡ false) → keep f (down n) ≡ []
 keep-none f zero h = refl
@@ -49,25 +48,22 @@ offered_low (suc n) row i p y under w l = go (eqb n i) refl (λ k. offered_low n
         let same : has n (left row (joined 0 i)) ≡ has n row = dropped n ∙ rw q (and_yes (has n row)) in
         rw same (more (has n row) (keep (λ j. has j row) (down n)) (keep (λ j. has j (left row (joined 0 i))) (down n)) (ih (omega (arith, ne))))
 
--- the lowest place of a row with no place from n on
-module _ (n row : ℕ) (within : (j : ℕ) → n ≤ j → has j row ≡ false) (some : 0 < row) (fits : row < 2 ^ 64) where
+-- the lowest place of a row that has one
+module _ (row : ℕ) (some : 0 < row) (fits : row < 2 ^ 64) where
   pub lowest-has : has (lowest row) row ≡ true
   lowest-has = (lowest_least row).passes (omega (arith, lowest-place row some fits))
 
-  pub lowest_low : lowest row < n
-  lowest_low = let h : ¬ (n ≤ lowest row) = λ h. false≢true (sym (within (lowest row) h) ∙ lowest-has) in omega arith
+  pub children-lowest : (p : List ℕ) → children row p ≡ children (left row (joined 0 (lowest row))) p ++ (snoc p (lowest row) ∷ [])
+  children-lowest p =
+      let low = lowest-place row some fits in
+      offered_low 64 row (lowest row) p lowest-has (λ j h. (lowest_least row).below j (omega arith) h) low low
 
-  pub offered-lowest : (p : List ℕ) → offered n row p ≡ offered n (left row (joined 0 (lowest row))) p ++ (snoc p (lowest row) ∷ [])
-  offered-lowest p = offered_low n row (lowest row) p lowest-has (λ j h. (lowest_least row).below j (omega arith) h) (lowest-place row some fits) lowest_low
-
-  pub lower-within : (j : ℕ) → n ≤ j → has j (left row (joined 0 (lowest row))) ≡ false
-  lower-within j h = has_dropped row (lowest row) (lowest-place row some fits) j ∙ rw (within j h)
-
-pub offered-few : (n row : ℕ) (p : List ℕ) → length (offered n row p) ≤ n
+-- a row with no place from n on has no children from n on
+pub offered_wide : (m n row : ℕ) (p : List ℕ) → n ≤ m → ((j : ℕ) → n ≤ j → has j row ≡ false) → offered m row p ≡ offered n row p
 unfolding offered
-offered-few zero row p = le_refl 0
-offered-few (suc n) row p = go (has n row) (keep (λ j. has j row) (down n)) (offered-few n row p)
+offered_wide zero n row p h none = let z : n ≡ 0 = omega arith in rw z refl
+offered_wide (suc m) n row p h none = go (ltb m n) refl (λ le. offered_wide m n row p le none)
   where
-    go : (b : Bool) (xs : List ℕ) → length (map (snoc p) xs) ≤ n → length (map (snoc p) (put b n xs)) ≤ suc n
-    go true xs h = omega arith
-    go false xs h = omega arith
+    go : (t : Bool) → ltb m n ≡ t → (n ≤ m → offered m row p ≡ offered n row p) → offered (suc m) row p ≡ offered n row p
+    go true e ih = let z : n ≡ suc m = omega (arith, ltb-true m n e) in rw z refl
+    go false e ih = let le : n ≤ m = ltb-false m n e in rw (none m le) (ih le)

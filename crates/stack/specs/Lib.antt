@@ -1,4 +1,4 @@
 pub mod Stacked
-pub mod States
+pub mod Looks
 pub mod Stands
 pub mod Begins

@@ -1,50 +1,56 @@
-// Where the search of a file begins: what it goes by, and its first turn.
-ghost use Rattle.std.specs.Prelude.{cond, ◌≡◌, ◌*◌, ◌<◌, ◌^◌};
+// What the search of a file goes by.
+ghost use Rattle.std.specs.Prelude.{IfOk, IfErr, ◌*◌, ◌<◌, ◌^◌};
+ghost use Rattle.card.specs.Content.{content_p};
 ghost use Rattle.reply.specs.Slots.{slot_bytes};
-ghost use Rattle.stack.specs.Begins.{Begins, BeginsOver, Unbegun};
+ghost use Rattle.stack.specs.Begins.{Ran, RanOver, Leads, Unbegun};
 
-use crate::state::{State, Terms, first, stopped};
 use card::Ended;
 use places::BundlePlace;
 use policy::{Seats, seats_in};
 use question::{Question, When, pose};
 use reply::{Slot, fault};
 
-// What a search goes by: who issued whom, who may stand where, and where it begins.
+// What is asked: how many certificates there are, the budget, and whether what waits stays in the records at the end.
+#[derive(Clone, Copy)]
+pub(crate) struct Terms {
+    pub(crate) budget: u64,
+    pub(crate) size: u8,
+    pub(crate) leaves: bool,
+}
+
+// Who issued whom, who may stand where, and what is asked.
 #[derive(Clone, Copy)]
 pub(crate) struct Begun {
     pub(crate) rows: [u64; BundlePlace::MOST],
     pub(crate) roots: [u64; BundlePlace::MOST],
     pub(crate) seats: [u64; Seats::ROWS],
-    pub(crate) state: State,
+    pub(crate) terms: Terms,
 }
 
-// The search of a file in so many records: a paused run with budget k, or else the search with the file's own budget.
-pub(crate) fn begin(file: &[u8], count: usize, paused: bool, k: u64) -> Begun
+// The search of a file in so many records: a paused run with this budget, or else the search with the file's own budget. Where there is
+// no search, the number of what stands in its way.
+pub(crate) fn begin(file: &[u8], count: usize, paused: Option<u64>) -> Result<Begun, u8>
     requires { slot_bytes * count < 2 ^ 63 }
-    ensures { Begins file.now count paused k result }
+    ensures ok { IfOk result (Leads count (Ran paused (content_p file.now))) }
+    ensures err { IfErr result (Unbegun count (Ran paused (content_p file.now))) }
 {
     let posed = pose(file, When::Own);
-    let ended = posed.ended;
-    match ended {
-        Ended::Read => {
-            return begin_over(posed.question, count, paused, k);
-        }
-        Ended::Stop(fault) => {
-            return unbegun(fault.number());
-        }
+    match posed.ended {
+        Ended::Read => begin_over(posed.question, count, paused),
+        Ended::Stop(fault) => Err(fault.number()),
     }
 }
 
 // The same of a question.
-fn begin_over(question: Question, count: usize, paused: bool, k: u64) -> Begun
+fn begin_over(question: Question, count: usize, paused: Option<u64>) -> Result<Begun, u8>
     requires { slot_bytes * count < 2 ^ 63 }
-    ensures { BeginsOver question count paused k result }
+    ensures ok { IfOk result (Leads count (RanOver paused question)) }
+    ensures err { IfErr result (Unbegun count (RanOver paused question)) }
 {
     let n = question.size;
     let stop = fault(n, Slot::BYTES * count);
     if stop != 0 {
-        return unbegun(stop);
+        return Err(stop);
     }
     let judged = question.judged;
     let issuing = judged.issuing;
@@ -52,37 +58,14 @@ fn begin_over(question: Question, count: usize, paused: bool, k: u64) -> Begun
     let roots = issuing.roots;
     let mut seats = [0u64; Seats::ROWS];
     seats_in(&mut seats, judged, n - 1);
-    let terms = Terms {
-        budget: budget_of(paused, k, question.budget),
-        size: n,
-        leaves: paused,
-    };
-    Begun {
+    Ok(Begun {
         rows,
         roots,
         seats,
-        state: first(terms),
-    }
-}
-
-// The budget of a paused run, or else the file's own.
-fn budget_of(paused: bool, k: u64, own: u64) -> u64
-    ensures { result ≡ cond paused k own }
-{
-    if paused {
-        return k;
-    }
-    own
-}
-
-// There is no search, and the answer is this error.
-fn unbegun(number: u8) -> Begun
-    ensures { Unbegun number result }
-{
-    Begun {
-        rows: [0u64; BundlePlace::MOST],
-        roots: [0u64; BundlePlace::MOST],
-        seats: [0u64; Seats::ROWS],
-        state: stopped(number),
-    }
+        terms: Terms {
+            budget: paused.unwrap_or(question.budget),
+            size: n,
+            leaves: paused.is_some(),
+        },
+    })
 }

@@ -1,16 +1,20 @@
-// Paths that differ in their last place.
-ghost use Rattle.std.specs.Prelude.{List, ◌≡◌, ℕ, ◌<◌, length};
+// A path's children: the paths that are longer than it by one place.
+ghost use Rattle.std.specs.Prelude.{[], ◌≡◌, ◌≢◌, ◌+◌, ◌≤◌, ◌<◌, length};
 ghost use Rattle.order.specs.Walk.{snoc};
 ghost use Rattle.places.specs.Limits.{bundle_most};
 ghost use Rattle.reply.specs.Answer.{path_shown};
+ghost use Rattle.stack.specs.Stacked.{places_in, children, laid};
 
+use crate::records::push;
 use places::BundlePlace;
 use reply::Path;
+use rows::{lowest, with, without};
 
 // A path and then place i.
 pub(crate) fn child(path: Path, i: u8) -> Path
-    requires { (p : List ℕ) × (path ≡ path_shown p) × (length p < bundle_most) }
-    ensures { (p : List ℕ) → path ≡ path_shown p → length p < bundle_most → result ≡ path_shown (snoc p i) }
+    requires shown { path ≡ path_shown (places_in path) }
+    requires short { length (places_in path) < bundle_most }
+    ensures { result ≡ path_shown (snoc (places_in path) i) }
 {
     let mut longer = path;
     longer.places[path.length as usize] = BundlePlace(i);
@@ -18,12 +22,21 @@ pub(crate) fn child(path: Path, i: u8) -> Path
     longer
 }
 
-// The same path but for its last place, which is i.
-pub(crate) fn sibling(path: Path, i: u8) -> Path
-    requires { (p : List ℕ) × (j : ℕ) × (path ≡ path_shown (snoc p j)) × (length p < bundle_most) }
-    ensures { (p : List ℕ) (j : ℕ) → path ≡ path_shown (snoc p j) → length p < bundle_most → result ≡ path_shown (snoc p i) }
+// Puts a path's children by the places of a row in the records from `at` on, and returns the place after them.
+pub(crate) fn spread(records: &mut [Path], at: usize, path: Path, row: u64) -> usize
+    requires shown { path ≡ path_shown (places_in path) }
+    requires short { children row (places_in path) ≢ [] → length (places_in path) < bundle_most }
+    requires room { at + length (children row (places_in path)) ≤ length records.old }
+    ensures top { result ≡ at + length (children row (places_in path)) }
+    ensures laid { records.new ≡ laid at (children row (places_in path)) records.old }
 {
-    let mut other = path;
-    other.places[path.length as usize - 1] = BundlePlace(i);
-    other
+    let mut top = at;
+    let mut rest = row;
+    while rest != 0 {
+        let i = lowest(rest);
+        push(records, top, child(path, i));
+        top += 1;
+        rest = without(rest, with(0, i));
+    }
+    top
 }

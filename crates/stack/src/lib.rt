@@ -5,9 +5,8 @@
 mod begin;
 mod child;
 mod drive;
+mod look;
 mod records;
-mod state;
-mod turn;
 
 ghost use Rattle.card.specs.Content.{content_p};
 ghost use Rattle.reply.specs.Records.{bytes_of};
@@ -20,12 +19,12 @@ use reply::{Answer, Path};
 pub fn search_records(file: &[u8], records: &mut [Path]) -> Answer
     ensures { Search (content_p file.now) (bytes_of records.old) (bytes_of records.new) result }
 {
-    run(file, records, false, 0)
+    run(file, records, None)
 }
 
 // Searches with budget k, and leaves the paths that wait then in the needed records.
 pub fn paused_records(file: &[u8], k: u64, records: &mut [Path]) -> Answer
     ensures { Pause (content_p file.now) k (bytes_of records.old) (bytes_of records.new) result }
 {
-    run(file, records, true, k)
+    run(file, records, Some(k))
 }

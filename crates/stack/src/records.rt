@@ -1,5 +1,5 @@
-// A path put in a record of the stack, and a path taken from one.
-ghost use Rattle.std.specs.Prelude.{◌≡◌, ◌<◌, length, set, get_or};
+// The records: a path put in one, a path taken from one, and zeros put in more.
+ghost use Rattle.std.specs.Prelude.{◌++◌, ◌≡◌, ◌-◌, ◌≤◌, ◌<◌, length, take, drop, replicate, set, get_or};
 ghost use Rattle.places.specs.Limits.{bundle_most};
 ghost use Rattle.stack.specs.Stacked.{blank, Whole};
 
@@ -12,11 +12,21 @@ pub(crate) fn push(records: &mut [Path], at: usize, path: Path)
     records[at] = path;
 }
 
-pub(crate) fn take(records: &mut [Path], from: usize) -> Path
-    requires { from < length records.old }
-    ensures { (result ≡ get_or records.old from blank) × (records.new ≡ records.old) }
+pub(crate) fn take(records: &[Path], from: usize) -> Path
+    requires { from < length records.now }
+    ensures { result ≡ get_or records.now from blank }
 {
     records[from]
+}
+
+// Zeros from record a to record e.
+pub(crate) fn clear(records: &mut [Path], a: usize, e: usize)
+    requires { (a ≤ e) × (e ≤ length records.old) }
+    ensures { records.new ≡ take a records.old ++ (replicate (e - a) blank ++ drop e records.old) }
+{
+    for record in &mut records[a..e] {
+        *record = Path::new();
+    }
 }
 
 // Each record has as many places as a path has. That is what its type says; here it is told of records that are lent, and nothing is done.

@@ -1,16 +1,20 @@
 -- `begin` leads where the search of the file's question does, or to why the file can't be read.
+use Rattle.std.proofs.lemmas.Result.{IfOk-weaker, IfErr-weaker}
 use Rattle.question.proofs.Asked.{stop-says}
-use Rattle.stack.proofs.Ran.{read_begins, unread_begins}
+use Rattle.stack.proofs.Ran.{leads_read, unbegun_read, unbegun_unread}
 use Rattle.stack.proofs.begin.begin.Goals as goal
 
-pub returns-in-Read : goal.returns-in-Read
-returns-in-Read c =
+pub returns-in-Read-clause-ok : goal.returns-in-Read-clause-ok
+returns-in-Read-clause-ok c =
     let p = c.pose-posed in
-    let a = c.args in
-    read_begins _ p.result p.ensures c.in-Read.is a.paused a.k c.begin_over.ensures
+    IfOk-weaker _ _ _ (leads_read c.args.file.now p.result p.ensures c.in-Read.is c.args.count c.args.paused) c.begin_over.ensures.ok
 
-pub returns-in-Stop : goal.returns-in-Stop
-returns-in-Stop c =
+pub returns-in-Read-clause-err : goal.returns-in-Read-clause-err
+returns-in-Read-clause-err c =
     let p = c.pose-posed in
-    let a = c.args in
-    unread_begins _ p.result p.ensures _ (stop-says _ _ p.result p.ensures _ c.in-Stop.is) a.paused a.k (rw c.number.ensures at c.unbegun.ensures)
+    IfErr-weaker _ _ _ (unbegun_read c.args.file.now p.result p.ensures c.in-Read.is c.args.count c.args.paused) c.begin_over.ensures.err
+
+pub returns-in-Stop-clause-err : goal.returns-in-Stop-clause-err
+returns-in-Stop-clause-err c =
+    let p = c.pose-posed in
+    rw c.number.ensures (unbegun_unread c.args.file.now c.args.count c.args.paused _ (stop-says _ _ p.result p.ensures _ c.in-Stop.is))

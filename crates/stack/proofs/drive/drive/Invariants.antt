@@ -1,10 +1,10 @@
--- `drive` takes turns until none is left. What holds where it tests, and how many turns are left: Here.antt, Left.antt.
-use Rattle.stack.proofs.Here.{Here}
-use Rattle.stack.proofs.Left.{left_of}
+-- `drive` steps until the search is over: where it stands, and how many steps are left.
+use Rattle.std.proofs.Common.{◌-◌}
+use Rattle.stack.specs.Stands.{lent, Stands}
 use Rattle.stack.proofs.drive.drive.Given as goal
 
-abbrev pub invariant-loop-state : goal.invariant-loop-state
-invariant-loop-state l = Here l.rows l.roots l.seats l.initial.records l.initial.state l.state l.records
+abbrev pub invariant-loop-waiting : goal.invariant-loop-waiting
+invariant-loop-waiting l = Stands (lent l.ground l.fn.records l.terms) l.steps l.waiting l.records
 
-abbrev pub decreases-loop-state : goal.decreases-loop-state
-decreases-loop-state l = left_of l.state
+abbrev pub decreases-loop-waiting : goal.decreases-loop-waiting
+decreases-loop-waiting l = l.terms.budget - l.steps

@@ -1,17 +1,14 @@
--- A path looked through, place by place (`look_none`, `look_more`, `look-all`), for `look_through`; and what that tells of a path taken:
--- the roots over it (`look_roots`), and the places by which it goes on (`look_within`, `look_kids`), for Taken.antt. What is looked for:
--- `Looked` of specs/States.antt.
-use mathlib.Core.Bool.{Bool, true, false, not, ◌&&◌, ◌||◌, false≢true}
-use mathlib.Core.List.{List, [], ◌∷◌, map}
+-- A path looked through, place by place (`look_none`, `look_more`), for `look_through`; and what that tells of the path: the roots over it
+-- (`look_roots`) and the lowest of them (`first_root`), and the places by which it goes on (`look_children`), for `look`. What is looked
+-- for: `Looked` of specs/Looks.antt.
+use mathlib.Core.Bool.{Bool, true, false, not, ◌&&◌, ◌||◌}
+use mathlib.Core.List.{List, [], ◌∷◌}
 use mathlib.Core.Path.{◌≡◌, refl, sym, ap, ap₂, ◌∙◌}
-use Prim.Native.Nat.{ℕ, ◌+◌, ◌≤◌, ◌<◌}
-use native.Mathlib.Numerals.{add-one}
+use Prim.Native.Nat.{ℕ, ◌^◌, ◌≤◌, ◌<◌}
 use native.Mathlib.Omega.{arith}
-use borrow.Author.Tests.{eqb-true, ltb-true, ltb-false, le-ltb, lt-ltb}
+use borrow.Author.Tests.{eqb-true, eqb-false, ltb-true, ltb-false, le-ltb, lt-ltb}
 use lib.Dec.{eqb, ltb}
-use lib.ListN.{length, take, get_or, length-map, get_or-map}
-use lib.Seq.{take_all, take-suc, get_or-take, length-take-le}
-use Rattle.places.specs.declared.BundlePlace.{BundlePlace}
+use lib.ListN.{get_or}
 use Rattle.order.specs.Paths.{last}
 use Rattle.order.specs.Walk.{used, snoc, kids}
 use Rattle.order.proofs.Simple.{last_snoc}
@@ -19,15 +16,18 @@ use Rattle.policy.specs.Standing.{begun, added, added_all, over, standing, roots
 use Rattle.policy.specs.declared.standing.Standing.{Standing}
 use Rattle.policy.proofs.Adding.{standing-more}
 use Rattle.question.specs.Question.{places_by}
-use Rattle.reply.specs.Numbers.{placed}
-use Rattle.reply.specs.declared.path.Path.{Path}
-use Rattle.rows.specs.Rows.{has, joined, left, common, below}
+use Rattle.rows.specs.Rows.{has, joined, left, common, below, lowest}
 use Rattle.rows.proofs.Places.{has-none, has-joined, has_left, has_dropped, has-common}
 use Rattle.rows.proofs.Upper.{has-below}
 use Rattle.steps.specs.Parts.{offered}
 use Rattle.steps.proofs.Levels.{and_yes, but_either, offered-kids}
 use Rattle.steps.proofs.Paths.{used-snoc}
-use Rattle.stack.specs.States.{places_in, Looked}
+use Rattle.steps.specs.Parts.{roots_seated}
+use Rattle.steps.proofs.Least.{row-found, row-none}
+use Rattle.stack.specs.Looks.{Looked, FirstRoot}
+use Rattle.std.specs.Bool.{then_some}
+use Rattle.stack.specs.Stacked.{children}
+use Rattle.stack.proofs.Rows.{offered_wide}
 
 -- ---- place by place
 
@@ -62,22 +62,6 @@ module _ {n : ℕ} (few : n ≤ 64) {seats : List ℕ} where
       stands = s ∙ rw L.stands (sym (standing-more seats p i));
     }
 
-module _ (path : Path) (short : path.length ≤ length path.places) where
-  length-places : length (places_in path) ≡ path.length
-  unfolding places_in
-  length-places = length-take-le path.length (map (λ (i : BundlePlace). i.0) path.places) (rw (length-map path.places (λ (i : BundlePlace). i.0)) short)
-
-  pub places-next : (j : ℕ) → j < path.length → take (j + 1) (places_in path) ≡ snoc (take j (places_in path)) (get_or path.places j (placed 0)).0
-  unfolding places_in
-  places-next j h =
-      ap (λ (k : ℕ). take k (places_in path)) (add-one j)
-      ∙ take-suc (places_in path) j 0 (rw length-places h)
-      ∙ ap (snoc (take j (places_in path)))
-      (get_or-take path.length (map (λ (i : BundlePlace). i.0) path.places) j 0 h ∙ get_or-map (λ (i : BundlePlace). i.0) path.places j (placed 0))
-
-  pub places-all : (j : ℕ) → path.length ≤ j → take j (places_in path) ≡ places_in path
-  places-all j h = take_all j (places_in path) (rw length-places h)
-
 -- ---- what it tells
 
 module _ {n : ℕ} {seats p : List ℕ} {end free : ℕ} {stood : Standing} (L : Looked n seats p end free stood) where
@@ -94,17 +78,20 @@ module _ {n : ℕ} {seats p : List ℕ} {end free : ℕ} {stood : Standing} (L :
     next-has : (j : ℕ) → has j next ≡ (ltb j n && not (used j p)) && has j (get_or rows (last 0 p) 0)
     next-has j = ap (has j) is ∙ has-common j free (get_or rows end 0) ∙ ap₂ ◌&&◌ (L.unused j) (ap (λ (e : ℕ). has j (get_or rows e 0)) L.ends)
 
-    pub look_within : (j : ℕ) → n ≤ j → has j next ≡ false
+    look_within : (j : ℕ) → n ≤ j → has j next ≡ false
     look_within j h = next-has j ∙ rw (le-ltb j n h)
 
-    pub look_kids : offered n next p ≡ kids (places_by rows n) p
+    look_kids : offered n next p ≡ kids (places_by rows n) p
     look_kids = offered-kids (places_by rows n) next p (λ j h. next-has j ∙ rw (lt-ltb j n h))
 
-    -- a place of the row is not used
-    pub look_unused : (j : ℕ) → has j next ≡ true → used j p ≡ false
-    look_unused j y = go (ltb j n) (used j p) (has j (get_or rows (last 0 p) 0)) (sym (next-has j) ∙ y)
-      where
-        go : (a b c : Bool) → (a && not b) && c ≡ true → b ≡ false
-        go true true c e = absurd (false≢true e)
-        go true false c e = refl
-        go false b c e = absurd (false≢true e)
+    pub look_children : n ≤ 64 → children next p ≡ kids (places_by rows n) p
+    look_children few = offered_wide 64 n next p few look_within ∙ look_kids
+
+-- the lowest root, where there is one
+pub first_root : (issued seats p : List ℕ) {tops : ℕ} → tops ≡ roots_over issued seats p → tops < 2 ^ 64
+    → FirstRoot (roots_seated issued seats) p (then_some (not (eqb tops 0)) (record { 0 = lowest tops }))
+first_root issued seats p {tops} is fits = go (eqb tops 0) refl
+  where
+    go : (t : Bool) → eqb tops 0 ≡ t → FirstRoot (roots_seated issued seats) p (then_some (not t) (record { 0 = lowest tops }))
+    go true e = row-none issued seats p is (eqb-true tops 0 e)
+    go false e = let some = eqb-false tops 0 e in row-found issued seats p is (omega (arith, some)) fits
