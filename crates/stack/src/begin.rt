@@ -4,11 +4,10 @@ ghost use Rattle.card.specs.Content.{content_p};
 ghost use Rattle.reply.specs.Slots.{slot_bytes};
 ghost use Rattle.stack.specs.Begins.{Ran, RanOver, Leads, Unbegun};
 
-use card::Ended;
 use places::BundlePlace;
 use policy::{Seats, seats_in};
-use question::{Question, When, pose};
-use reply::{Slot, fault};
+use question::{Question, pose};
+use reply::{Slot, room_for};
 
 // What is asked: how many certificates there are, the budget, and whether what waits stays in the records at the end.
 #[derive(Clone, Copy)]
@@ -34,11 +33,7 @@ pub(crate) fn begin(file: &[u8], count: usize, paused: Option<u64>) -> Result<Be
     ensures ok { IfOk result (Leads count (Ran paused (content_p file.now))) }
     ensures err { IfErr result (Unbegun count (Ran paused (content_p file.now))) }
 {
-    let posed = pose(file, When::Own);
-    match posed.ended {
-        Ended::Read => begin_over(posed.question, count, paused),
-        Ended::Stop(fault) => Err(fault.number()),
-    }
+    begin_over(pose(file, None)?, count, paused)
 }
 
 // The same of a question.
@@ -48,10 +43,7 @@ fn begin_over(question: Question, count: usize, paused: Option<u64>) -> Result<B
     ensures err { IfErr result (Unbegun count (RanOver paused question)) }
 {
     let n = question.size;
-    let stop = fault(n, Slot::BYTES * count);
-    if stop != 0 {
-        return Err(stop);
-    }
+    room_for(n, Slot::BYTES * count)?;
     let judged = question.judged;
     let issuing = judged.issuing;
     let rows = issuing.bundle;

@@ -16,16 +16,15 @@ use crate::room::zero_bytes;
 use crate::run::{answer_of, run};
 use order::slots;
 use question::Question;
-use reply::{Answer, Slot, fault};
+use reply::{Answer, Slot, room_for};
 
 // Searches with this budget, and leaves the paths that wait then in the needed slots.
 pub fn paused(room: &mut [u8], question: Question, budget: u64) -> Answer
     ensures { Answered (λ q. Paused (places_of q) (roots_of q) budget room.old room.new result) (case_of question question.size (length room.old)) room.old room.new result }
 {
     let n = question.size;
-    let stop = fault(n, room.len());
-    if stop != 0 {
-        return Answer::stopped(stop);
+    if let Err(lack) = room_for(n, room.len()) {
+        return Answer::stopped(lack.into());
     }
     let end = run(n, question.judged, budget);
     leave(room, n, end);
@@ -37,9 +36,8 @@ pub fn search(room: &mut [u8], question: Question) -> Answer
     ensures { Answered (λ q. Searched (places_of q) (roots_of q) q.budget room.old room.new result) (case_of question question.size (length room.old)) room.old room.new result }
 {
     let n = question.size;
-    let stop = fault(n, room.len());
-    if stop != 0 {
-        return Answer::stopped(stop);
+    if let Err(lack) = room_for(n, room.len()) {
+        return Answer::stopped(lack.into());
     }
     let end = run(n, question.judged, question.budget);
     zero_bytes(room, 0, Slot::BYTES * (slots(n) as usize));
