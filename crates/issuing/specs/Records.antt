@@ -3,7 +3,7 @@
 -- was read: proofs/Agrees.antt.
 use Rattle.std.specs.Prelude.{ℕ, ◌≡◌, Bool, true, ◌&&◌, List, [], ◌∷◌, Some, None}
 use Rattle.std.specs.Prelude as Rust
-use Rattle.core.specs.Bool.{then_some}
+use Rattle.std.specs.Bool.{then_some}
 use Rattle.std.proofs.Math.Option.{Option, some, none}
 use Rattle.places.specs.Limits.{roots_most, bundle_most}
 use Rattle.places.specs.declared.BundlePlace.{BundlePlace}
