@@ -15,8 +15,9 @@ bounds-limits-i g c =
 pub loop-i-preserved : goal.loop-i-preserved
 loop-i-preserved g c =
     let came = c.in-Some.ensures.steps in
+    let row : c.min-row.result ≡ min (get_or c.args.kind.now.limits c.in-Some.i 0) c.args.last = c.min-row.ensures ∙ lesser _ _ in
     let room : min (get_or c.args.kind.now.limits c.in-Some.i 0) c.args.last < bundle_most = omega (arith, c.requires.rows_value.1) in
-    rw (came.2, c.with.ensures, c.min-row.ensures ∙ lesser _ _) (entering_turn _ _ _ _ _ c.loop-i.invariant _ came.0 came.1 room)
+    rw (came.2, c.with.ensures, row) (entering_turn _ _ _ _ _ c.loop-i.invariant _ came.0 came.1 room)
 
 pub returns : goal.returns
 returns g c =
