@@ -57,6 +57,12 @@ module _ (last sound : ℕ) (limits : List ℕ) where
             go true e true f = let k = ltb-true j (length limits) f in (lowest_least rest).below j (omega arith) (omega arith)
             go true e false f = absurd (false≢true (sym (l.inside j (ltb-false j (length limits) f)) ∙ m.kept j e))
 
+    -- the lowest of the rest has a limit
+    pub entering_inside : Limited sound limits → (i : ℕ) → i ≡ lowest rest → i < 64 → i < length limits
+    entering_inside l i first place =
+        let h : ¬ (length limits ≤ i) = λ h. false≢true (sym (l.inside i h) ∙ m.kept i (lowest-there rest i first place)) in
+        omega arith
+
     module _ (i : ℕ) (first : i ≡ lowest rest) (place : i < 64) where
       abbrev row : ℕ
       row = min (get_or limits i 0) last

@@ -6,7 +6,7 @@ ghost use Rattle.policy.specs.Standing.{Seated};
 
 use crate::{Judged, Sound};
 use card::{BundlePlace, RootPlace};
-use rows::{below, either, lowest, shared, with, without};
+use rows::{below, each, either, with};
 use std::cmp::min;
 
 // Three rows for each seat: the roots that may stand above, the places that may come next and count, and those that may and don't. Seat 0
@@ -80,13 +80,9 @@ fn enter<const MOST: usize>(rows: &mut [u64], last: usize, kind: &Sound<MOST>)
     ensures { Entered last kind.now.sound kind.now.limits rows.new }
 {
     let limits = &kind.limits[..];
-    let mut rest = kind.sound;
-    let mut i = lowest(rest);
-    while (i as usize) < limits.len() {
+    for i in each(kind.sound) {
         let row = min(limits[i as usize] as usize, last);
         rows[row] = with(rows[row], i);
-        rest = without(rest, with(0, i));
-        i = lowest(rest);
     }
 }
 

@@ -1,5 +1,5 @@
--- A loop that takes the lowest place of a row out each turn: that place stands in the row (`lowest-there`), and what is left begins later
--- (`lowest_grows`). For the loops of policy; the lowest place, and a row without one of its places: Places.antt.
+-- The lowest place of a row taken out: that place stands in the row (`lowest-there`), and what is left begins later (`lowest_grows`). For
+-- src/coming.rt, and for those who go through a row's places; the lowest place, and a row without one of its places: Places.antt.
 use Prim.Native.Nat.{ℕ, ◌≤◌, ◌<◌}
 use mathlib.Core.Bool.{Bool, true, false, not, ◌&&◌, and-false, false≢true}
 use mathlib.Core.Path.{◌≡◌, refl, sym, ap, ◌∙◌}

@@ -1,7 +1,7 @@
 -- A set of places as the bits of a number: one place, what makes a row of two, its lowest and highest place, the row of a test; then a
 -- number for each place. The laws: proofs/Places.antt (membership), proofs/Upper.antt (the highest place), proofs/Listing.antt (the
 -- numbers), proofs/Words.antt (the code's shifts and masks).
-use Rattle.std.specs.Prelude.{ℕ, zero, suc, ◌-◌, ◌/◌, ◌%◌, ◌^◌, Bool, cond, ◌&&◌, List, [], ◌∷◌, ◌++◌, replicate, eqb, ltb}
+use Rattle.std.specs.Prelude.{Option, Some, None, ◌≡◌, ◌≤◌, ◌<◌, ℕ, zero, suc, ◌-◌, ◌/◌, ◌%◌, ◌^◌, Bool, cond, ◌&&◌, List, [], ◌∷◌, ◌++◌, replicate, eqb, ltb}
 use Rattle.std.specs.Int.Bits.{bit_or, bit_and, bit_xor}
 use Rattle.places.specs.Lowest.{seek}
 
@@ -44,6 +44,11 @@ below n = cond (ltb n 64) (2 ^ n - 1) (2 ^ 64 - 1)
 unfoldable pub row_of : (ℕ → Bool) → ℕ → ℕ
 row_of test zero = 0
 row_of test (suc n) = cond (test n) (joined (row_of test n) n) (row_of test n)
+
+-- what comes next of the places that are left: the lowest, and then the others are left; nothing where there is none
+abbrev pub Next : ℕ → Option ℕ → ℕ → Type 0
+Next rest None after = 64 ≤ lowest rest
+Next rest (Some i) after = (i ≡ lowest rest) × (i < 64) × (after ≡ left rest (joined 0 i))
 
 -- ---- a number for each place
 

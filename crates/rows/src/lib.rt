@@ -1,8 +1,12 @@
 // A row: a set of places as the bits of one number. A row has room for as many places as any limit asks, so that one width serves all.
 #![tactic(auto)]
 
+mod coming;
+
 ghost use Rattle.std.specs.Prelude.{◌≡◌};
 ghost use Rattle.rows.specs.Rows.{has, joined, left, common, either, lowest, highest, below};
+
+pub use coming::{Rising, each};
 
 // The places that a row has room for.
 #[derive(Clone, Copy)]
