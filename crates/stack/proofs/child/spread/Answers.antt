@@ -1,5 +1,5 @@
 -- `spread` lays the lowest child of those that are left.
-use Rattle.std.proofs.Common.{◌++◌, ◌≡◌, ℕ, ◌+◌, ◌<◌, List, [], ◌∷◌, length, refl, sym, ap, ◌∙◌, append_assoc, append-nil, length-append, arith}
+use Rattle.std.proofs.Common.{◌++◌, ◌≡◌, ℕ, ◌+◌, ◌<◌, List, [], ◌∷◌, length, set, refl, sym, ap, ◌∙◌, append_assoc, append-nil, length-append, arith}
 use Rattle.order.specs.Walk.{snoc}
 use Rattle.rows.specs.Rows.{joined, left, lowest}
 use Rattle.rows.proofs.Places.{has-none}
@@ -56,14 +56,16 @@ loop-rest-preserved c =
     let k = (goal.at.loop-rest-preserved c).After-lowest-i in
     let p = places_in c.args.path in
     let i = c.loop-rest.invariant in
+    let put : set c.loop-rest.records c.loop-rest.top c.child.result ≡ laid c.args.at (snoc p (lowest c.loop-rest.rest) ∷ i.done) c.args.records.now =
+    rw (c.child.ensures, c.lowest-i.ensures, i.laid, i.top)
+    (laid_more c.args.at c.args.records.now i.done (snoc p (lowest c.loop-rest.rest)) (omega (arith, next_record k, i.top))) in
     record {
       done = snoc p (lowest c.loop-rest.rest) ∷ i.done;
       all = i.all ∙ rw (c.without-rest.ensures, c.with.ensures, c.lowest-i.ensures)
           (ap (λ (r : List (List ℕ)). r ++ i.done) (lowest_left k) ∙ append_assoc (children (left c.loop-rest.rest (joined 0 (lowest c.loop-rest.rest))) p) (snoc p (lowest c.loop-rest.rest) ∷ []) i.done);
       top = omega (arith, i.top);
       fits = c.without-rest.type_inv;
-      laid = c.push.ensures ∙ rw (c.child.ensures, c.lowest-i.ensures, i.laid, i.top)
-          (laid_more c.args.at c.args.records.now i.done (snoc p (lowest c.loop-rest.rest)) (omega (arith, next_record k, i.top)));
+      laid = c.push.ensures ∙ put;
     }
 
 -- none are left
