@@ -1,7 +1,7 @@
 -- Any bytes at all get their content or one of 4 to 9: a file that can't be read stops at one of these (`file_stops`), so that what is
 -- answered as read was read (`answered_read`), and a fault that is answered is where reading stopped (`answered_stopped`). Which bytes a fault hangs on: LeftToRight.antt.
 use Prim.Native.Nat.{ℕ, zero, suc, ◌+◌, ◌*◌, ◌≤◌}
-use mathlib.Core.Path.{◌≡◌, refl, sym, ap, ◌∙◌}
+use mathlib.Core.Path.{◌≡◌, refl, ap, ◌∙◌}
 use mathlib.Core.Bool.{Bool, true, false, cond, ◌&&◌}
 use mathlib.Core.List.{List}
 use native.Mathlib.Omega.{arith}

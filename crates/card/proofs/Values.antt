@@ -10,12 +10,11 @@ use lib.ListN.{length}
 use lib.Seq.{take-append_seam}
 use borrow.Author.Tests.{leb-true}
 use Rattle.places.specs.Limits.{roots_most, bundle_most}
-use Rattle.fields.specs.Fields.{got, stop, after, counted_p, whole}
+use Rattle.fields.specs.Fields.{got, stop, counted_p, whole}
 use Rattle.fields.proofs.Values.{valued, after-known, after_same, after-after, by_place, counted_valued}
 use Rattle.record.specs.Certificate.{Certificate, certificate_p}
 use Rattle.record.specs.Parts.{certificate_of}
 use Rattle.record.specs.Record.{place_most, record_p}
-use Rattle.record.specs.declared.Record.{Record}
 use Rattle.record.proofs.Values.{certificate_by_record}
 use Rattle.certificates.specs.Certificates.{filled, certificates_p, roots_p, bundle_p}
 use Rattle.certificates.specs.declared.certificates.Certificates.{Certificates}

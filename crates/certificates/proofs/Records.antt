@@ -1,15 +1,14 @@
--- Records in so many places, for any number of places: a list by its count, one law for each answer of `certificates_at` (`uncounted`,
--- `list_stops`, `list_ends`), and the count within its bounds (`counted_few`, `counted_byte`); how many records there are (`size-within`);
--- and the record at a place by the tests of its place (`record_none`, `record_outside`, `record_there`, `record_within`). The loop's turns:
--- fields/proofs/Filling.antt.
+-- Records in so many places, for any number of places: a list after its count, which stops at a record or ends (`list_stops`, `list_ends`),
+-- and the count within its bounds (`counted_few`, `counted_byte`), for `certificates_at`; how many records there are (`size-within`); and the
+-- record at a place below that (`record_within`), for issuing. The loop's turns: fields/proofs/Filling.antt.
 use Prim.Native.Nat.{ℕ, ◌<◌, ◌≤◌}
 use mathlib.Core.Path.{◌≡◌, refl}
 use mathlib.Core.Bool.{Bool, true, false, cond}
 use mathlib.Core.List.{List}
 use native.Mathlib.Omega.{arith}
 use lib.Dec.{leb}
-use lib.ListN.{length, get_or, get_or-eq_default}
-use borrow.Author.Tests.{lt-ltb, le-ltb, leb-true, leb-false}
+use lib.ListN.{length, get_or}
+use borrow.Author.Tests.{lt-ltb, leb-true, leb-false}
 use Rattle.fields.specs.Fields.{got, stop, many, count_p, counted_p}
 use Rattle.fields.proofs.Counts.{count_read}
 use Rattle.fields.proofs.Many.{many-length}
@@ -22,10 +21,6 @@ use Rattle.certificates.specs.Certificates.{filled, certificates_p, size_of, rec
 -- ---- a list by its count
 
 module _ (most : ℕ) (s : List ℕ) (at : ℕ) where
-  pub uncounted : (r : ℕ) → count_p 0 most s at ≡ stop r → certificates_p most s at ≡ stop r
-  unfolding certificates_p counted_p
-  uncounted r h = rw h
-
   module _ (n first : ℕ) (h : count_p 0 most s at ≡ got n first) where
     pub counted_few : n ≤ most
     counted_few = (count_read 0 most s at n first h).few
@@ -58,17 +53,7 @@ module _ (most count : ℕ) where
       by_test false h = omega arith
 
 module _ (count : ℕ) (records : List Record) (place : ℕ) where
-  pub record_none : count ≤ place → fresh ≡ record_of count records place
-  unfolding record_of
-  record_none h = rw (le-ltb place count h)
-
-  pub record_outside : (most : ℕ) → length records ≡ most → place < count → most ≤ place → fresh ≡ record_of count records place
-  unfolding record_of
-  record_outside most long h o =
-      let past : length records ≤ place = omega arith in
-      rw (lt-ltb place count h, get_or-eq_default records fresh past)
-
-  pub record_there : place < count → get_or records place fresh ≡ record_of count records place
+  record_there : place < count → get_or records place fresh ≡ record_of count records place
   unfolding record_of
   record_there h = rw (lt-ltb place count h)
 

@@ -1,5 +1,5 @@
 -- The two lists of certificates in a card file, roots and bundle (docs/CARD-FILE.md, "Layout"): how they stand in a file, each after its
--- count; what stands where nothing was read; and the record at a place. What is found are numbers and places in the file.
+-- count; and the record at a place. What is found are numbers and places in the file.
 -- Not here: a record (record/specs/Record.antt); the limits (places/specs/Limits.antt); the certificates as values (`sections_p` of
 -- card/specs/Content.antt).
 use Rattle.std.specs.Prelude.{ℕ, ◌-◌, cond, List, ◌++◌, leb, ltb, length, get_or, replicate}

@@ -7,7 +7,7 @@ use fields::{Reading, count_at};
 use record::{Record, record_at};
 use std::cmp::min;
 
-// The count stands last, so that the records are copied whole and aligned.
+// An array with a count, as the library has no heap. The count stands last, so that the records are copied whole and aligned.
 #[derive(Clone, Copy)]
 pub struct Certificates<const MOST: usize> {
     pub records: [Record; MOST],
@@ -24,7 +24,7 @@ impl<const MOST: usize> Certificates<MOST> {
     }
 
     // The record at a place; the one of nothing but zeros where there is no such place.
-    #[tactic(auto, using(crate::proofs::Records::record_none, crate::proofs::Records::record_outside, crate::proofs::Records::record_there))]
+    #[tactic(auto, unfolding(crate::specs::Certificates::record_of))]
     pub fn nth(&self, place: u8) -> Record
         ensures { result ≡ record_of self.now.count self.now.records place }
     {
@@ -36,6 +36,7 @@ impl<const MOST: usize> Certificates<MOST> {
 }
 
 // The certificates at a place.
+#[tactic(auto, unfolding(crate::specs::Certificates::certificates_p, fields::specs::Fields::counted_p))]
 pub(crate) fn certificates_at<const MOST: usize>(
     file: &[u8],
     at: usize,

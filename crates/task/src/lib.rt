@@ -61,7 +61,7 @@ fn times_at(file: &[u8], at: usize) -> Reading<(u64, u64)>
     Ok(((now, budget), next))
 }
 
-// A purpose is a bad value above the server's, judged when it is read.
+// A purpose is a bad value above the server's, judged when it is read. One purpose is known and nothing is kept of it, so it is no enum.
 #[tactic(auto, unfolding(crate::specs::Task::purpose_p))]
 fn purpose_past(file: &[u8], at: usize) -> Result<usize, Fault>
     ensures { passed result ≡ passing (purpose_p file.now at) }

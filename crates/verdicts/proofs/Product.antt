@@ -1,17 +1,15 @@
 -- The verdicts' count, which must be the product of issuers and subjects: how large it can be (`few`), and that the verdicts begin within
 -- the file (`begins_within`), for `verdicts_at`. Where the verdicts stand: specs/Grid.antt; their bytes judged: Pass.antt.
 use Prim.Native.Nat.{ℕ, ◌+◌, ◌*◌, ◌<◌, ◌≤◌}
-use mathlib.Core.Path.{◌≡◌, sym, ◌∙◌}
+use mathlib.Core.Path.{◌≡◌}
 use mathlib.Core.List.{List}
 use native.Mathlib.Omega.{arith}
 use native.Mathlib.Nat.{mul-le-mul}
 use lib.Dec.{leb}
 use lib.ListN.{length}
-use borrow.Author.Tests.{leb-true, eq-eqb, ne_eqb}
-use Rattle.fields.specs.Fields.{got, stop, after, bytes_p, big_p, many}
+use borrow.Author.Tests.{leb-true}
+use Rattle.fields.specs.Fields.{got, bytes_p, big_p}
 use Rattle.fields.proofs.After.{after-got, judged_got, got-is}
-use Rattle.verdicts.specs.Verdicts.{verdict_p}
-use Rattle.verdicts.specs.Grid.{grid_p}
 
 -- rows for two counts of a byte each, and columns for one
 pub few : (rows columns : ℕ) → rows ≤ 510 → columns < 256 → rows * columns ≤ 130050

@@ -1,5 +1,5 @@
 -- `any_above_yes` meets its contract: what it folds over the bytes is whether one was above yes so far.
-use mathlib.Core.Path.{◌≡◌, ◌∙◌}
+use mathlib.Core.Path.{◌∙◌}
 use mathlib.Core.Bool.{◌||◌}
 use lib.Dec.{ltb}
 use borrow.Author.Rules.{rules}

@@ -1,15 +1,10 @@
 -- `certificates_at` answers so many records as the count says, in front of places that are as they were at first, or the first fault. The
 -- invariant: the first i places hold the records that were read.
-use mathlib.Core.Path.{sym, ap, ◌∙◌}
 use native.Mathlib.Omega.{arith}
 use Rattle.fields.proofs.Asked.{read_ok, read_err, read_asked}
 use Rattle.fields.proofs.Filling.{filling_starts, filling_goes_on, filling_stops}
-use Rattle.certificates.proofs.Records.{uncounted, counted_few, counted_byte, list_stops, list_ends}
+use Rattle.certificates.proofs.Records.{counted_few, counted_byte, list_stops, list_ends}
 use Rattle.certificates.proofs.certificates.certificates_at.Goals as goal
-
-pub returns-in_err-count : goal.returns-in_err-count
-returns-in_err-count g c =
-    read_asked _ _ c.from_residual.ensures.1 (uncounted _ _ _ _ (read_err c.count_at.ensures c.in_err-count.was))
 
 pub loop-i-init : goal.loop-i-init
 loop-i-init g c =
