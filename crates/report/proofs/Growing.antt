@@ -3,8 +3,8 @@ use mathlib.Core.List.{List, ◌++◌}
 use mathlib.Core.Path.{◌≡◌, ap, ap₂, sym, ◌∙◌}
 use Prim.Native.Nat.{ℕ, ◌+◌, ◌-◌, ◌≤◌}
 use native.Mathlib.Omega.{arith}
-use lib.ListN.{length, drop, replicate, length-append, replicate-append-replicate, length-replicate}
-use lib.Seq.{paste, take-append_seam, drop-append-add, take-length, drop_at}
+use lib.ListN.{length, replicate, length-append}
+use lib.Seq.{paste, take-append_seam, drop-append-add, take-length}
 use Rattle.std.proofs.lemmas.List.{drop-replicate}
 use Rattle.report.specs.Lines.{line_most, line_shown}
 use Rattle.report.specs.declared.line.Line.{Line}
@@ -14,7 +14,7 @@ pasted : (l more : List ℕ) → length l + length more ≤ line_most
     → paste (l ++ replicate (line_most - length l) 0) (length l) more (length more) ≡ (l ++ more) ++ replicate (line_most - length (l ++ more)) 0
 pasted l more h =
     let n : line_most - length l - length more ≡ line_most - length (l ++ more) = rw length-append (omega arith) in
-    rw (take-append_seam, take-length, drop-append-add, drop-replicate (length more) (line_most - length l) 0, n)
+    rw (take-append_seam, take-length, drop-append-add, drop-replicate {X = ℕ} (length more) (line_most - length l) 0, n)
 
 -- the line that a copy of more leaves
 pub grown : (x : Line) (more bytes : List ℕ) → x.length + length more ≤ line_most → bytes ≡ paste x.bytes x.length more (length more)
