@@ -1,119 +1,115 @@
-// A case answered by its reply (say.rt). How many fields it has tells its form; its question is looked up by name.
+// A case answered by its reply (say.rt). How many fields it has tells its form, the second field its question.
+use crate::believe::lowest_root;
 use crate::bytes::unescape;
-use crate::lines::{count, part, place};
-use crate::say::UNKNOWN;
-use crate::{believe, say};
+use crate::say;
+use fields::Fault;
 use keys::{check_auth_key_id, ip_addr_in_range};
-use same::{Related, same_attr, same_dn, same_rdn};
-use std::io::Result;
+use same::{same_attr, same_dn, same_rdn};
+use std::io;
 use subtree::{is_subtree_of, is_subtree_rdn, rdn_has_name};
-use text::{equal, match_name, normalize_string};
+use text::{match_name, normalize_string};
 
 // Answers a line, with what stands behind its question.
-pub(crate) fn answer(rt: &impl Print, line: &[u8]) -> Result<()> {
-    let mut a = [0u8; 4096];
-    let mut b = [0u8; 4096];
-    let mut c = [0u8; 4096];
-    let mut d = [0u8; 4096];
-    ask(
-        rt,
-        line,
-        unescape(line, 2, &mut a),
-        unescape(line, 3, &mut b),
-        unescape(line, 4, &mut c),
-        unescape(line, 5, &mut d),
-    )
-}
-
-fn ask(rt: &impl Print, line: &[u8], a: &[u8], b: &[u8], c: &[u8], d: &[u8]) -> Result<()> {
-    let label = part(line, b'|', 0);
-    let question = part(line, b'|', 1);
-    match count(line, b'|') {
-        3 => two(rt, label, question, a, b),
-        4 => say::reply(rt, label, related(question, a, b, c)),
-        5 => say::reply(rt, label, key_ids(question, a, b, c, d)),
-        _ => say::reply(rt, label, UNKNOWN),
+pub(crate) fn answer(rt: &impl Print, line: &[u8]) -> io::Result<()> {
+    let mut fields = line.split(|b| *b == b'|');
+    rt.write_all(fields.next().unwrap_or(&[]))?;
+    print!(rt; ": ")?;
+    let question = fields.next().unwrap_or(&[]);
+    let arguments = (fields.next(), fields.next(), fields.next(), fields.next());
+    match (arguments, fields.next()) {
+        ((Some(a), Some(b), None, None), None) => two(rt, question, a, b),
+        ((Some(flag), Some(a), Some(b), None), None) => related(rt, question, flag, a, b),
+        ((Some(akid), Some(aserial), Some(skid), Some(serial)), None) => {
+            key_ids(rt, question, akid, aserial, skid, serial)
+        }
+        _ => say::unknown(rt),
     }
 }
 
 // normalize_string|ROOM|STRING, match_name|PATTERN|NAME, ip_addr_in_range|RANGE|ADDRESS and lowest_root|PATH|CARD
-fn two(rt: &impl Print, label: &[u8], question: &[u8], a: &[u8], b: &[u8]) -> Result<()> {
-    match question_place(question) {
-        0 => normal_form(rt, label, a, b),
-        1 => say::reply(rt, label, say::yes_no(match_name(a, b))),
-        2 => say::reply(rt, label, say::yes_no(ip_addr_in_range(a, b))),
-        3 => believe::lowest_root(rt, label, a, b),
-        _ => say::reply(rt, label, UNKNOWN),
+fn two(rt: &impl Print, question: &[u8], a: &[u8], b: &[u8]) -> io::Result<()> {
+    let mut first = [0u8; 4096];
+    let mut second = [0u8; 4096];
+    let a = unescape(a, &mut first);
+    let b = unescape(b, &mut second);
+    match question {
+        b"normalize_string" => normal_form(rt, a, b),
+        b"match_name" => say::reply(rt, Ok(match_name(a, b))),
+        b"ip_addr_in_range" => say::reply(rt, Ok(ip_addr_in_range(a, b))),
+        b"lowest_root" => say::top(rt, lowest_root(a, b)),
+        _ => say::unknown(rt),
     }
 }
 
-// The place of a question among the arms above; 4 where it is none.
-fn question_place(question: &[u8]) -> usize {
-    place(
-        b"normalize_string|match_name|ip_addr_in_range|lowest_root|",
-        question,
-    )
-}
-
-fn normal_form(rt: &impl Print, label: &[u8], number: &[u8], s: &[u8]) -> Result<()> {
-    let lent = place(b"0|1|2|3|4|5|6|7|8|", number);
-    if 8 < lent {
-        return say::reply(rt, label, UNKNOWN);
+fn normal_form(rt: &impl Print, lent: &[u8], s: &[u8]) -> io::Result<()> {
+    match lent {
+        [digit @ b'0'..=b'8'] => {
+            let mut room = [b'#'; 8];
+            let answer = normalize_string(s, &mut room[..usize::from(digit - b'0')]);
+            say::normalised(rt, answer, &room)
+        }
+        _ => say::unknown(rt),
     }
-    let mut room = [b'#'; 8];
-    let answer = normalize_string(s, &mut room[0..lent]);
-    say::normalised(rt, label, answer, &room)
 }
 
 // RELATION|FLAG|ARGUMENT|ARGUMENT
-fn related(question: &[u8], flag: &[u8], a: &[u8], b: &[u8]) -> usize {
-    let normalise = place(b"as they stand|normalised|", flag);
-    let which = relation_place(question);
-    if 1 < normalise {
-        return UNKNOWN;
-    }
-    if 5 < which {
-        return UNKNOWN;
-    }
-    relation(which, a, b, normalise == 1).number() as usize
-}
-
-fn relation(which: usize, a: &[u8], b: &[u8], normalise: bool) -> Related {
-    match which {
-        0 => same_attr(a, b, normalise),
-        1 => same_rdn(a, b, normalise),
-        2 => same_dn(a, b, normalise),
-        3 => rdn_has_name(a, b, normalise),
-        4 => is_subtree_rdn(a, b, normalise),
-        _ => is_subtree_of(a, b, normalise),
+fn related(rt: &impl Print, question: &[u8], flag: &[u8], a: &[u8], b: &[u8]) -> io::Result<()> {
+    let mut first = [0u8; 4096];
+    let mut second = [0u8; 4096];
+    let mut third = [0u8; 4096];
+    let a = unescape(a, &mut first);
+    let b = unescape(b, &mut second);
+    let normalise = match unescape(flag, &mut third) {
+        b"as they stand" => false,
+        b"normalised" => true,
+        _ => return say::unknown(rt),
+    };
+    match relation(question, a, b, normalise) {
+        Some(related) => say::reply(rt, related),
+        None => say::unknown(rt),
     }
 }
 
-// The place of a relation among the arms above; 6 where it is none. It stands alone since a string lengthens every step of its function's proof.
-fn relation_place(question: &[u8]) -> usize {
-    place(
-        b"same_attr|same_rdn|same_dn|rdn_has_name|is_subtree_rdn|is_subtree_of|",
-        question,
-    )
+fn relation(question: &[u8], a: &[u8], b: &[u8], normalise: bool) -> Option<Result<bool, Fault>> {
+    let related = match question {
+        b"same_attr" => same_attr(a, b, normalise),
+        b"same_rdn" => same_rdn(a, b, normalise),
+        b"same_dn" => same_dn(a, b, normalise),
+        b"rdn_has_name" => rdn_has_name(a, b, normalise),
+        b"is_subtree_rdn" => is_subtree_rdn(a, b, normalise),
+        b"is_subtree_of" => is_subtree_of(a, b, normalise),
+        _ => return None,
+    };
+    Some(related)
 }
 
 // check_auth_key_id|AUTHORITY KEY ID|AUTHORITY SERIAL|SUBJECT KEY ID|SERIAL
-// A part that is absent is handed over as the bytes `none`, which must not be read.
-fn key_ids(question: &[u8], akid: &[u8], aserial: &[u8], skid: &[u8], serial: &[u8]) -> usize {
-    if !equal(question, b"check_auth_key_id") {
-        return UNKNOWN;
+fn key_ids(
+    rt: &impl Print,
+    question: &[u8],
+    akid: &[u8],
+    aserial: &[u8],
+    skid: &[u8],
+    serial: &[u8],
+) -> io::Result<()> {
+    let mut first = [0u8; 4096];
+    let mut second = [0u8; 4096];
+    let mut third = [0u8; 4096];
+    let mut fourth = [0u8; 4096];
+    let akid = given(unescape(akid, &mut first));
+    let aserial = given(unescape(aserial, &mut second));
+    let skid = given(unescape(skid, &mut third));
+    let serial = unescape(serial, &mut fourth);
+    match question {
+        b"check_auth_key_id" => say::reply(rt, Ok(check_auth_key_id(akid, aserial, skid, serial))),
+        _ => say::unknown(rt),
     }
-    say::yes_no(check_auth_key_id(
-        present(akid),
-        akid,
-        present(aserial),
-        aserial,
-        present(skid),
-        skid,
-        serial,
-    ))
 }
 
-fn present(part: &[u8]) -> bool {
-    !equal(part, b"none")
+// A part that is absent is written as `none`.
+fn given(part: &[u8]) -> Option<&[u8]> {
+    match part {
+        b"none" => None,
+        _ => Some(part),
+    }
 }

@@ -1,61 +1,32 @@
 // The bytes that an argument stands for.
-ghost use Rattle.std.specs.Prelude.{◌<◌, ◌≤◌, length};
+ghost use Rattle.std.specs.Prelude.{◌<◌, IfSome, length};
 
-use crate::lines::part;
+use intake::hex_digit;
 
-// The bytes of a line's field, written to out: those that find no room are left out.
-pub(crate) fn unescape<'a>(line: &[u8], place: usize, out: &'a mut [u8]) -> &'a [u8] {
-    let arg = part(line, b'|', place);
-    let mut at: usize = 0;
-    let mut n: usize = 0;
-    while at < arg.len() && n < out.len() {
-        let taken = byte_at(arg, at);
-        out[n] = taken.byte;
+// The bytes of a field, written to out: those that find no room are left out.
+pub(crate) fn unescape<'a>(field: &[u8], out: &'a mut [u8]) -> &'a [u8] {
+    let mut rest = field;
+    let mut n = 0;
+    while let Some((byte, behind)) = first_byte(rest) {
+        if n == out.len() {
+            break;
+        }
+        out[n] = byte;
         n += 1;
-        at = taken.next;
+        rest = behind;
     }
-    let all = &out[..];
-    &all[..n]
+    &out[..n]
 }
 
-// The value of a hexadecimal digit; 256 where b is none.
-fn digit(b: u8) -> usize
-    ensures { result ≤ 256 }
+// The first byte that an argument stands for, and what stands behind it.
+fn first_byte(arg: &[u8]) -> Option<(u8, &[u8])>
+    ensures { IfSome result (λ r. length r.1.now < length arg.now) }
 {
-    match b {
-        b'0'..=b'9' => (b - b'0') as usize,
-        b'A'..=b'F' => (b - b'A') as usize + 10,
-        _ => 256,
+    if let [b'\\', high, low, rest @ ..] = arg {
+        if let (Some(high), Some(low)) = (hex_digit(*high), hex_digit(*low)) {
+            return Some((high * 16 + low, rest));
+        }
     }
-}
-
-// A byte that an argument stands for, and the place past what stands for it.
-#[derive(Clone, Copy)]
-struct Taken {
-    byte: u8,
-    next: usize,
-}
-
-fn byte_at(arg: &[u8], at: usize) -> Taken
-    requires { at < length arg.now }
-    ensures { (at < result.next) × (result.next ≤ length arg.now) }
-{
-    let itself = Taken {
-        byte: arg[at],
-        next: at + 1,
-    };
-    if itself.byte != b'\\' {
-        return itself;
-    }
-    if arg.len() - at < 3 {
-        return itself;
-    }
-    let value = digit(arg[at + 1]) * 16 + digit(arg[at + 2]);
-    if 255 < value {
-        return itself;
-    }
-    Taken {
-        byte: value as u8,
-        next: at + 3,
-    }
+    let (byte, rest) = arg.split_first()?;
+    Some((*byte, rest))
 }

@@ -19,11 +19,9 @@
 mod ask;
 mod believe;
 mod bytes;
-mod lines;
 mod say;
 
 use intake::fill;
-use lines::{count, part};
 use std::io::Result;
 
 fn main(rt: HostRuntime) -> Result<()> {
@@ -32,22 +30,14 @@ fn main(rt: HostRuntime) -> Result<()> {
     answer_all(&rt, &buf[..n])
 }
 
+// What stands behind the last newline is no line.
 fn answer_all(rt: &impl Print, file: &[u8]) -> Result<()> {
-    let n = count(file, b'\n');
-    let mut i: usize = 0;
-    while i < n {
-        let line = part(file, b'\n', i);
-        if is_case(line) {
-            ask::answer(rt, line)?;
+    let end = file.iter().rposition(|b| *b == b'\n').unwrap_or(0);
+    for line in file[..end].split(|b| *b == b'\n') {
+        match line {
+            [] | [b'#', ..] => {}
+            _ => ask::answer(rt, line)?,
         }
-        i += 1;
     }
     Ok(())
-}
-
-fn is_case(line: &[u8]) -> bool {
-    if line.len() == 0 {
-        return false;
-    }
-    line[0] != b'#'
 }

@@ -1,51 +1,36 @@
-// What is written: one line for each case, its label and the reply.
-use crate::lines::part;
-use rows::Row;
-use std::io::Result;
-use text::Normalized;
+// What is written behind a case's label: the reply.
+use fields::Fault;
+use std::io;
 
-// A reply is a number: 0 is no, 1 is yes, a fault has its own up to 10, and this one is that there is no such question.
-pub(crate) const UNKNOWN: usize = 11;
-
-pub(crate) fn yes_no(yes: bool) -> usize {
-    if yes { 1 } else { 0 }
+pub(crate) fn unknown(rt: &impl Print) -> io::Result<()> {
+    println!(rt; "unknown question")
 }
 
-pub(crate) fn reply(rt: &impl Print, label: &[u8], number: usize) -> Result<()> {
-    rt.write_all(label)?;
-    rt.write_all(b": ")?;
-    rt.write_all(part(b"no|yes|2|3|4|5|6|7|8|9|10|unknown question", b'|', number))?;
-    rt.write_all(b"\n")
-}
-
-// The reply, and after it the eight bytes of which the lent room is the start.
-pub(crate) fn normalised(
-    rt: &impl Print,
-    label: &[u8],
-    reply: Normalized,
-    room: &[u8; 8],
-) -> Result<()> {
-    rt.write_all(label)?;
-    match reply {
-        Normalized::Length(n) => {
-            rt.write_all(b": length ")?;
-            rt.print(n)?;
-        }
-        Normalized::NoRoom => rt.write_all(b": 10")?,
+// Yes or no, or the number of a fault.
+pub(crate) fn reply(rt: &impl Print, answer: Result<bool, Fault>) -> io::Result<()> {
+    match answer {
+        Ok(true) => println!(rt; "yes"),
+        Ok(false) => println!(rt; "no"),
+        Err(fault) => println!(rt; "{}", u8::from(fault)),
     }
-    rt.write_all(b", room: ")?;
+}
+
+// The length, or the number of no room; after it the eight bytes of which the lent room is the start.
+pub(crate) fn normalised(rt: &impl Print, length: Option<usize>, room: &[u8; 8]) -> io::Result<()> {
+    match length {
+        Some(n) => print!(rt; "length {n}")?,
+        None => print!(rt; "10")?,
+    }
+    print!(rt; ", room: ")?;
     rt.write_all(room)?;
-    rt.write_all(b"\n")
+    println!(rt)
 }
 
 // The root above a path, or that there is none.
-pub(crate) fn top(rt: &impl Print, label: &[u8], root: u8) -> Result<()> {
-    rt.write_all(label)?;
-    if root < Row::PLACES {
-        rt.write_all(b": root ")?;
-        rt.print(root)?;
-    } else {
-        rt.write_all(b": no root")?;
+pub(crate) fn top(rt: &impl Print, root: Result<Option<u8>, Fault>) -> io::Result<()> {
+    match root {
+        Ok(Some(root)) => println!(rt; "root {root}"),
+        Ok(None) => println!(rt; "no root"),
+        Err(fault) => reply(rt, Err(fault)),
     }
-    rt.write_all(b"\n")
 }

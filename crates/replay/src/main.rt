@@ -9,12 +9,11 @@
 
 mod waiting;
 
-use intake::fill;
+use intake::{fill, open};
 use std::env::{Env, FillError};
-use std::io::{ErrorKind, Read, Result};
+use std::io::{Read, Result};
 use std::rt::Files;
-use std::{fs, str};
-use waiting::{name_at, number, pause};
+use waiting::{number, pause};
 
 fn main(rt: HostRuntime) -> Result<()> {
     for i in 1..usize::MAX {
@@ -39,21 +38,12 @@ fn replay<R: Env + Files + Print>(rt: &R, i: usize) -> Result<bool> {
 }
 
 fn answer<R: Files + Print>(rt: &R, word: &[u8]) -> Result<()> {
-    let at = name_at(word);
-    if at == 0 {
+    let Some(colon) = word.iter().position(|b| *b == b':') else {
         return rt.write_all(b" is not K:NAME\n");
-    }
-    match open(rt, &word[at..]) {
-        Ok(mut file) => replay_file(rt, &mut file, number(word)),
+    };
+    match open(rt, &word[colon + 1..]) {
+        Ok(mut file) => replay_file(rt, &mut file, number(&word[..colon])),
         Err(_) => rt.write_all(b" can't be opened\n"),
-    }
-}
-
-// A name that is not UTF-8 opens nothing.
-fn open<R: Files>(rt: &R, name: &[u8]) -> Result<R::File> {
-    match str::from_utf8(name) {
-        Ok(path) => fs::open(rt, path),
-        Err(_) => Err(ErrorKind::InvalidFilename.into()),
     }
 }
 

@@ -5,44 +5,38 @@
 mod line;
 mod replying;
 
-ghost use Rattle.std.specs.Prelude.{List, ◌++◌, ◌≡◌, ℕ, ◌+◌, ◌*◌, ◌≤◌, ◌<◌, length};
+ghost use Rattle.std.specs.Prelude.{List, ◌++◌, ◌≡◌, ℕ, ◌+◌, ◌*◌, ◌≤◌, length};
+ghost use Rattle.io.specs.Counts.{IsPrefixLen};
 ghost use Rattle.places.specs.Limits.{bundle_most};
 ghost use Rattle.reply.specs.declared.Reply.TheVariants.{Accepted};
 ghost use Rattle.report.specs.Lines.{line_of, line_shown, newline, places_shown, spaced, words};
 ghost use Rattle.report.specs.Text.{decimal};
 
 pub use line::Line;
-use places::RootPlace;
+use places::{BundlePlace, RootPlace};
 use reply::{Answer, Path, Reply};
 pub use replying::{Room, reply_to};
 
-// The line for an answer.
+// The line for an answer. The second clause follows from the first; with it, `as_slice` needs no proof.
 pub fn line_of(answer: Answer) -> Line
-    ensures { result ≡ line_shown (line_of answer) }
+    ensures line { result ≡ line_shown (line_of answer) }
+    ensures prefix_len { IsPrefixLen result.length result.bytes }
 {
-    let reply = answer.reply;
-    match reply {
-        Reply::Accepted { root, steps } => {
-            let path = answer.path;
-            return accepted(root, steps, path);
-        }
-        Reply::Refused { steps } => {
-            return numbered(b"REFUSE steps ", steps);
-        }
-        Reply::Exhausted { steps } => {
-            return numbered(b"EXHAUSTED steps ", steps);
-        }
-        Reply::Error(number) => {
-            return numbered(b"ERROR ", wide(number));
-        }
+    match answer.reply {
+        Reply::Accepted { root, steps } => accepted(root, steps, answer.path),
+        Reply::Refused { steps } => numbered(b"REFUSE steps ", steps),
+        Reply::Exhausted { steps } => numbered(b"EXHAUSTED steps ", steps),
+        Reply::Error(number) => numbered(b"ERROR ", number.into()),
     }
 }
 
 fn accepted(root: RootPlace, steps: u64, path: Path) -> Line
     ensures { result ≡ line_shown (words (Accepted root steps) (places_shown path) ++ newline) }
 {
-    let line = Line::new().with_number(b"ACCEPT steps ", steps);
-    let line = line.with_number(b" root ", wide(root.0)).with(b" path");
+    let line = Line::new()
+        .with_number(b"ACCEPT steps ", steps)
+        .with_byte(b" root ", root.0)
+        .with(b" path");
     with_places(line, path).with(b"\n")
 }
 
@@ -55,25 +49,14 @@ fn numbered(word: &[u8], n: u64) -> Line
 }
 
 // The line with a path's places behind it.
-fn with_places(line: Line, path: Path) -> Line
+fn with_places(mut line: Line, path: Path) -> Line
     requires { line.length ≤ 47 }
     ensures length_bound { result.length ≤ line.length + 4 * bundle_most }
     ensures by_index { (l : List ℕ) → line ≡ line_shown l → result ≡ line_shown (l ++ spaced (places_shown path)) }
 {
-    let places = path.places;
-    let n = Path::within(path.length as usize);
-    let mut line = line;
-    let mut j = 0;
-    while j < n {
-        let place = places[j];
-        line = line.with_number(b" ", wide(place.0));
-        j += 1;
+    let n = Path::within(path.length.into());
+    for &BundlePlace(place) in &path.places[..n] {
+        line = line.with_byte(b" ", place);
     }
     line
-}
-
-fn wide(x: u8) -> u64
-    ensures { (result ≡ x) × (result < 256) }
-{
-    x as u64
 }

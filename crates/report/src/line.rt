@@ -1,5 +1,6 @@
 // A line under way.
-ghost use Rattle.std.specs.Prelude.{List, [], ◌++◌, ◌≡◌, ℕ, ◌+◌, ◌≤◌, length};
+ghost use Rattle.std.specs.Prelude.{List, [], ◌++◌, ◌≡◌, ℕ, ◌+◌, ◌≤◌, length, take};
+ghost use Rattle.io.specs.Counts.{IsPrefixLen};
 ghost use Rattle.report.specs.Lines.{line_most, line_shown};
 ghost use Rattle.report.specs.Text.{decimal};
 
@@ -25,23 +26,25 @@ impl Line {
         }
     }
 
+    // The bytes of the line, without the zeros past them.
+    pub fn as_slice(&self) -> &[u8]
+        requires { IsPrefixLen self.now.length self.now.bytes }
+        ensures { result.now ≡ take self.now.length self.now.bytes }
+    {
+        &self.bytes[..self.length]
+    }
+
     // The line with more bytes behind it.
-    pub(crate) fn with(self, more: &[u8]) -> Line
+    pub(crate) fn with(mut self, more: &[u8]) -> Line
         requires { self.length + length more.now ≤ line_most }
         ensures length_value { result.length ≡ self.length + length more.now }
         ensures by_index { (l : List ℕ) → self ≡ line_shown l → result ≡ line_shown (l ++ more.now) }
     {
-        let at = self.length;
-        let mut bytes = self.bytes;
-        let mut j = 0;
-        while j < more.len() {
-            bytes[at + j] = more[j];
-            j += 1;
-        }
-        Line {
-            bytes,
-            length: at + j,
-        }
+        let start = self.length;
+        let end = start + more.len();
+        self.bytes[start..end].copy_from_slice(more);
+        self.length = end;
+        self
     }
 
     // The line with a word and a number behind it.
@@ -53,5 +56,14 @@ impl Line {
         let mut digits = [0u8; 20];
         let k = io::decimal(n, &mut digits);
         self.with(word).with(&digits[..k])
+    }
+
+    // The same of a byte, which has three digits at most.
+    pub(crate) fn with_byte(self, word: &[u8], n: u8) -> Line
+        requires { self.length + length word.now + 3 ≤ line_most }
+        ensures length_bound { result.length ≤ self.length + length word.now + 3 }
+        ensures by_index { (l : List ℕ) → self ≡ line_shown l → result ≡ line_shown (l ++ (word.now ++ decimal n)) }
+    {
+        self.with_number(word, n.into())
     }
 }

@@ -14,12 +14,10 @@
 #![tactic(auto)]
 
 mod ask;
-mod lines;
 mod show;
 mod words;
 
 use intake::fill;
-use lines::end_at;
 use std::io::Result;
 
 fn main(rt: HostRuntime) -> Result<()> {
@@ -29,21 +27,11 @@ fn main(rt: HostRuntime) -> Result<()> {
 }
 
 fn answer_all(rt: &impl Print, file: &[u8]) -> Result<()> {
-    let mut at: usize = 0;
-    while at < file.len() {
-        let end = end_at(file, at, b'\n');
-        line(rt, &file[at..end])?;
-        at = end + 1;
+    for line in file.split(|b| *b == b'\n') {
+        match line {
+            [] | [b'#', ..] => {}
+            _ => ask::answer(rt, line)?,
+        }
     }
     Ok(())
-}
-
-fn line(rt: &impl Print, line: &[u8]) -> Result<()> {
-    if line.len() == 0 {
-        return Ok(());
-    }
-    if line[0] == b'#' {
-        return Ok(());
-    }
-    ask::answer(rt, line)
 }

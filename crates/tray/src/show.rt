@@ -1,103 +1,68 @@
 // What is written of a case: its label, the terminal's line, and the room as slots.
-ghost use Rattle.std.specs.Prelude.{◌≤◌, length, IfOk};
+ghost use Rattle.std.specs.Prelude.{◌≤◌, length};
 
-use crate::lines::{end_at, run_end};
 use reply::{Answer, Slot};
 use report::line_of;
 use std::io::Result;
 
 pub(crate) fn answer(rt: &impl Print, label: &[u8], answer: Answer, room: &[u8]) -> Result<()> {
     rt.write_all(label)?;
-    rt.write_all(b": ")?;
-    reply(rt, answer)?;
-    rt.write_all(b", room:")?;
+    print!(rt; ": ")?;
+    rt.write_all(line_of(answer).as_slice().trim_ascii_end())?;
+    print!(rt; ", room:")?;
     slots(rt, room)?;
-    rt.write_all(b"\n")
-}
-
-// Writes the terminal's line for an answer, up to its newline.
-fn reply(rt: &impl Print, answer: Answer) -> Result<()> {
-    let line = line_of(answer);
-    let bytes = line.bytes;
-    let end = end_at(&bytes, 0, b'\n');
-    rt.write_all(&bytes[0..end])
+    println!(rt)
 }
 
 // Writes the paths in the lowest slots; then how many bytes are zero, how many are as they were lent, and how many are left.
-fn slots(rt: &impl Print, s: &[u8]) -> Result<()> {
-    let zeros = paths(rt, s)?;
-    let lent = run_end(s, zeros, 0);
-    let others = run_end(s, lent, b'#');
-    run(rt, lent - zeros, b" zeros")?;
-    run(rt, others - lent, b" #")?;
-    run(rt, s.len() - others, b" others")
+fn slots(rt: &impl Print, room: &[u8]) -> Result<()> {
+    let rest = paths(rt, room)?;
+    let (zeros, rest) = rest.split_at(run_end(rest, 0));
+    let (lent, others) = rest.split_at(run_end(rest, b'#'));
+    run(rt, zeros, "zeros")?;
+    run(rt, lent, "#")?;
+    run(rt, others, "others")
 }
 
-fn run(rt: &impl Print, n: usize, name: &[u8]) -> Result<()> {
-    if n == 0 {
+// How many bytes b the bytes begin with.
+fn run_end(bytes: &[u8], b: u8) -> usize
+    ensures { result ≤ length bytes.now }
+{
+    bytes.iter().position(|x| *x != b).unwrap_or(bytes.len())
+}
+
+fn run(rt: &impl Print, bytes: &[u8], name: &str) -> Result<()> {
+    if bytes.is_empty() {
         return Ok(());
     }
-    count(rt, b" ", n as u64)?;
-    rt.write_all(name)
+    print!(rt; " {} {name}", bytes.len())
 }
 
-// Writes the paths in the lowest slots; where they end.
-fn paths(rt: &impl Print, s: &[u8]) -> Result<usize>
-    ensures { IfOk result (λ n. n ≤ length s.now) }
-{
-    let mut at: usize = 0;
-    while Slot::BYTES <= s.len() - at {
-        let slot = &s[at..at + Slot::BYTES];
-        if !is_path(slot) {
-            break;
-        }
-        path(rt, slot)?;
-        at += Slot::BYTES;
+// Writes the paths in the lowest slots; the bytes behind them.
+fn paths<'a>(rt: &impl Print, room: &'a [u8]) -> Result<&'a [u8]> {
+    let mut rest = room;
+    while let Some((slot, behind)) = rest.split_at_checked(Slot::BYTES) {
+        let Some(places) = path_in(slot) else { break };
+        path(rt, places)?;
+        rest = behind;
     }
-    Ok(at)
+    Ok(rest)
 }
 
-// Whether a slot holds a path: a length from 1 to as many places as a slot has, and zeros past so many places.
-fn is_path(slot: &[u8]) -> bool {
-    if slot.len() != Slot::BYTES {
-        return false;
+// The places of the path in a slot, where it holds one: a length from 1 to as many places as a slot has, and zeros past so many places.
+fn path_in(slot: &[u8]) -> Option<&[u8]> {
+    let (length, places) = slot.split_first()?;
+    let (path, rest) = places.split_at_checked(usize::from(*length))?;
+    if path.is_empty() || rest.iter().any(|b| *b != 0) {
+        return None;
     }
-    let end = wide(slot[0]) + 1;
-    if end < 2 {
-        return false;
-    }
-    if Slot::BYTES < end {
-        return false;
-    }
-    run_end(slot, end, 0) == Slot::BYTES
+    Some(path)
 }
 
-// Writes the path in a slot.
-fn path(rt: &impl Print, slot: &[u8]) -> Result<()> {
-    let mut i: usize = 1;
-    while i < slot.len() && i <= wide(slot[0]) {
-        place(rt, i, wide(slot[i]))?;
-        i += 1;
+fn path(rt: &impl Print, places: &[u8]) -> Result<()> {
+    for (i, place) in places.iter().enumerate() {
+        let before = if i == 0 { " [" } else { "," };
+        print!(rt; "{before}{place}")?;
     }
-    rt.write_all(b"]")
-}
-
-// Writes the place at byte i of a path's slot.
-fn place(rt: &impl Print, i: usize, place: usize) -> Result<()> {
-    if i == 1 {
-        return count(rt, b" [", place as u64);
-    }
-    count(rt, b",", place as u64)
-}
-
-fn wide(x: u8) -> usize
-    ensures { result ≤ 255 }
-{
-    x as usize
-}
-
-// A number behind its name.
-fn count(rt: &impl Print, name: &[u8], n: u64) -> Result<()> {
-    rt.write_all(name)?;
-    rt.print(n)
+    print!(rt; "]")
 }

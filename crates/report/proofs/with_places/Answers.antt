@@ -1,51 +1,35 @@
 -- `with_places` writes a path's places, each after a space.
-use mathlib.Core.List.{◌++◌, map, append-nil}
-use mathlib.Core.Path.{◌≡◌, ap, sym, ◌∙◌}
-use Prim.Native.Nat.{◌≤◌, ◌<◌}
-use native.Mathlib.Nat.{min-le_right}
-use native.Mathlib.Omega.{arith}
-use lib.ListN.{length, take}
+use Rattle.std.proofs.Common.{◌≡◌, ◌++◌, ◌≤◌, map, take, sym, ap, ◌∙◌, arith, rules}
+use mathlib.Core.List.{append-nil}
+use lib.ListN.{length}
+use lib.Seq.{take_all}
 use Rattle.places.specs.Limits.{bundle_most}
 use Rattle.reply.proofs.Shown.{take-few}
 use Rattle.report.specs.Lines.{line_shown, spaced, number_of, places_shown}
-use Rattle.report.specs.Text.{ascii, decimal}
-use Rattle.report.proofs.Decimals.{decimal_u8}
 use Rattle.report.proofs.Places.{place_behind}
-use borrow.Author.Rules.{rules}
 use Rattle.report.proofs.with_places.Goals as goal
 
-pub loop-j-init : goal.loop-j-init
+pub loop-place-init : goal.loop-place-init
 unfolding spaced
-loop-j-init c = record {
-  turns = omega arith;
+loop-place-init c = record { room = omega arith; written = λ s h. h ∙ ap line_shown (sym (append-nil s)) }
+
+pub loop-place-preserved : goal.loop-place-preserved
+loop-place-preserved c = record {
   room = omega arith;
-  written = λ s h. h ∙ ap line_shown (sym (append-nil s));
+  written = λ s h. c.with_byte-line.ensures.by_index _ (c.loop-place.invariant.written s h) ∙ ap line_shown (place_behind s _ c.loop-place.place-index c.loop-place-test.true);
 }
 
-pub with_number-line-requires : goal.with_number-line-requires
-with_number-line-requires c =
-    let few : c.within-n.result ≤ bundle_most = rw c.within-n.ensures (min-le_right c.args.path.length bundle_most) in
-    omega (arith, decimal_u8 c.wide.result c.wide.ensures.1)
-
-pub loop-j-preserved : goal.loop-j-preserved
-loop-j-preserved c =
-    let places = c.args.path.places in
-    let few : c.within-n.result ≤ bundle_most = rw c.within-n.ensures (min-le_right c.args.path.length bundle_most) in
-    let many : length places ≡ bundle_most = search rules in
-    let long : c.loop-j.j < length places = omega arith in record {
-      turns = omega arith;
-      room = omega (arith, decimal_u8 c.wide.result c.wide.ensures.1);
-      written = λ s h.
-          c.with_number-line.ensures.by_index (s ++ spaced (map number_of (take c.loop-j.j places))) (c.loop-j.invariant.written s h)
-          ∙ ap (λ x. line_shown ((s ++ spaced (map number_of (take c.loop-j.j places))) ++ (ascii " " ++ decimal x))) c.wide.ensures.0
-          ∙ ap line_shown (place_behind s places c.loop-j.j long);
-    }
+pub returns-clause-length_bound : goal.returns-clause-length_bound
+returns-clause-length_bound c =
+    let few : length (take c.within-n.result c.args.path.places) ≤ bundle_most = search rules in
+    omega (arith, c.loop-place.auto.place-index-end)
 
 pub returns-clause-by_index : goal.returns-clause-by_index
 unfolding places_shown
 returns-clause-by_index c s h =
-    let p = c.args.path in
-    let n : c.loop-j.j ≡ c.within-n.result = omega arith in
-    let many : length p.places ≡ bundle_most = search rules in
-    let t : take c.loop-j.j p.places ≡ take p.length p.places = rw (n, c.within-n.ensures) (take-few bundle_most p.length p.places many) in
-    c.loop-j.invariant.written s h ∙ ap (λ x. line_shown (s ++ spaced (map number_of x))) t
+    let path = c.args.path in
+    let shown = take c.within-n.result path.places in
+    let many : length path.places ≡ bundle_most = search rules in
+    let first : shown ≡ take path.length path.places = rw (c.within-n.ensures, c.into.ensures) (take-few bundle_most path.length path.places many) in
+    c.loop-place.invariant.written s h
+    ∙ ap (λ x. line_shown (s ++ spaced (map number_of x))) (take_all c.loop-place.place-index shown c.loop-place-test.false ∙ first)
