@@ -31,15 +31,13 @@ impl Verdicts {
         (roots as usize + bundle as usize) * (bundle as usize)
     }
 
-    // A root signed a certificate of the bundle. False if either place doesn't exist.
+    // A root signed a certificate of the bundle. False if either place doesn't exist. This and the next stay two, as the places of roots and
+    // bundle are two kinds of number, and their rows begin elsewhere.
     #[tactic(auto, unfolding(crate::specs::Grid::root_signed))]
     pub fn root_signed(self, file: &[u8], issuer: RootPlace, subject: BundlePlace) -> bool
         ensures { result ≡ root_signed self file.now issuer.0 subject.0 }
     {
-        if self.roots <= issuer.0 {
-            return false;
-        }
-        signed_at(self, file, issuer.0 as usize, subject.0 as usize)
+        issuer.0 < self.roots && signed_at(self, file, issuer.0 as usize, subject.0 as usize)
     }
 
     // A certificate of the bundle signed another, or itself. False if either place doesn't exist.
@@ -47,15 +45,8 @@ impl Verdicts {
     pub fn bundle_signed(self, file: &[u8], issuer: BundlePlace, subject: BundlePlace) -> bool
         ensures { result ≡ bundle_signed self file.now issuer.0 subject.0 }
     {
-        if self.bundle <= issuer.0 {
-            return false;
-        }
-        signed_at(
-            self,
-            file,
-            self.roots as usize + issuer.0 as usize,
-            subject.0 as usize,
-        )
+        let row = self.roots as usize + issuer.0 as usize;
+        issuer.0 < self.bundle && signed_at(self, file, row, subject.0 as usize)
     }
 }
 
@@ -66,19 +57,11 @@ fn signed_at(verdicts: Verdicts, file: &[u8], row: usize, column: usize) -> bool
     ensures { result ≡ signed_at verdicts file.now row column }
 {
     let columns = verdicts.bundle as usize;
-    let first = verdicts.first;
-    if columns <= column {
-        return false;
-    }
-    if file.len() <= first {
-        return false;
-    }
-    let past = row * columns + column;
-    if file.len() - first <= past {
-        return false;
-    }
-    let at = first + past;
-    file[at] as usize == Verdicts::YES
+    let rows = file.get(verdicts.first..).unwrap_or(&[]);
+    column < columns
+        && rows
+            .get(row * columns + column)
+            .is_some_and(|verdict| *verdict as usize == Verdicts::YES)
 }
 
 // The verdicts on so many roots and so large a bundle.
