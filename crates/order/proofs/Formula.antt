@@ -1,6 +1,6 @@
 -- Laws of `slots_of`: where it is the formula (`slots_formula`), where it is 0 (`slots_past`), and that a full bundle needs the most
--- (`slots_most`, for the room of report). That as many slots are enough: Bound.antt; that the printed table has these numbers: the proof of
--- `slots`.
+-- (`slots_most`, for the room of report). That as many slots are enough: Bound.antt; that the printed table has these numbers:
+-- Printed.antt.
 use mathlib.Core.Path.{◌≡◌}
 use mathlib.Core.Logic.{⊎_elim}
 use Prim.Native.Nat.{ℕ, ◌+◌, ◌-◌, ◌*◌, ◌/◌, ◌≤◌, ◌<◌}

@@ -9,3 +9,4 @@ pub mod Stack
 pub mod Table
 pub mod Tree
 pub mod Waiting
+pub mod Printed

@@ -1,5 +1,5 @@
 -- A rule of a table, proved at all of its entries by one test that antt computes, one entry after the other (`at`). For the proof of
--- `slots`, with the formula of Formula.antt.
+-- `slots` (Printed.antt).
 use mathlib.Core.Path.{◌∙◌, subst, sym}
 use mathlib.Core.Bool.{Bool, true, false, ◌&&◌}
 use mathlib.Core.List.{List, [], ◌∷◌}

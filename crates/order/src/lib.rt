@@ -14,12 +14,9 @@ const SLOTS: [u8; BundlePlace::MOST + 1] = [
 ];
 
 // The slots that n certificates need; 0 past the table's end.
+#[tactic(auto, using(crate::proofs::Printed::printed))]
 pub fn slots(n: u8) -> u8
     ensures { result ≡ slots_of n }
 {
-    let at = n as usize;
-    if at < SLOTS.len() {
-        return SLOTS[at];
-    }
-    0
+    SLOTS.get(n as usize).copied().unwrap_or(0)
 }
