@@ -6,9 +6,10 @@ use mathlib.Core.List.{[], ◌∷◌}
 use Rattle.text.specs.Bytes.{lowered, same, starts_with}
 use Rattle.text.specs.Wildcard.{match_name}
 use Rattle.fields.specs.Fields.{count_p, bytes_p, string_p}
+use Rattle.fields.specs.Runs.{passes, any_of}
 use Rattle.lists.specs.Lists.{dns_name_p}
 use Rattle.rules.specs.Rules.{names_host}
-use Rattle.rules.specs.Records.{passes, any_of, for_host_at}
+use Rattle.rules.specs.Records.{for_host_at}
 
 -- the host compared as it stands: "A" refused under the DNS name "a"
 pub host_not_lowered : false ≡ for_host_at (1 ∷ 97 ∷ []) (65 ∷ []) (record { count = 1; first = 0 }) → ⊥

@@ -1,9 +1,7 @@
--- A certificate's limit: its path length where it has one (`limit_given`), and else none (`no_limit`), for the proof of `limit`. A path
--- length is a byte (`path_length_byte`). Of as many certificates as a path can have the limit says what the path length allows
--- (`limit_allows`, for policy/proofs/SeatsRead.antt). The limit: specs/Limits.antt; the rule: specs/Rules.antt.
+-- A path length is a byte (`path_length_byte`), for `limit`. Of as many certificates as a path can have the limit says what the path length
+-- allows (`limit_allows`, for policy/proofs/SeatsRead.antt). The limit: specs/Limits.antt; the rule: specs/Rules.antt.
 use Prim.Native.Nat.{ℕ, ◌≤◌}
 use mathlib.Core.Path.{◌≡◌, refl}
-use mathlib.Core.Bool.{true, false}
 use mathlib.Core.List.{List}
 use mathlib.Core.Option.{Option, none, some}
 use native.Mathlib.Omega.{arith}
@@ -11,25 +9,14 @@ use lib.Dec.{leb}
 use borrow.Author.Tests.{le-leb}
 use Rattle.fields.specs.Fields.{Parsed, got, stop}
 use Rattle.extensions.specs.Extensions.{extensions_p}
-use Rattle.extensions.specs.Flags.{has_path_length}
 use Rattle.record.specs.Certificate.{Certificate}
-use Rattle.record.specs.Parts.{value_or, extensions_of, certificate_by}
+use Rattle.record.specs.Parts.{value_or, extensions_of}
 use Rattle.record.specs.Fresh.{no_extensions}
 use Rattle.extensions.proofs.Meaning.{extensions_read}
-use Rattle.record.specs.declared.head.Head.{Head}
 use Rattle.extensions.specs.declared.Extensions.{Extensions}
 use Rattle.record.specs.declared.Record.{Record}
 use Rattle.rules.specs.Rules.{at_most, allows}
 use Rattle.rules.specs.Limits.{or_no_limit, limit_of}
-
-module _ (r : Record) (s : List ℕ) (head : Head) where
-  pub limit_given : has_path_length head.flags ≡ true → (x : Extensions) → x ≡ extensions_of head.flags r s → x.path_length ≡ limit_of (certificate_by head r s)
-  unfolding limit_of certificate_by
-  limit_given f x q = rw (f, q)
-
-  pub no_limit : has_path_length head.flags ≡ false → 255 ≡ limit_of (certificate_by head r s)
-  unfolding limit_of certificate_by
-  no_limit f = rw f
 
 -- a path length is a byte, and 0 where it can't be read
 pub path_length_byte : (flags : ℕ) (r : Record) (s : List ℕ) (x : Extensions) → x ≡ extensions_of flags r s → x.path_length ≤ 255

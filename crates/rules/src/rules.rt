@@ -17,6 +17,7 @@ pub struct Time {
 }
 
 impl Time {
+    #[tactic(auto, unfolding(crate::specs::Rules::at))]
     pub fn at(now: u64) -> Time
         ensures { result ≡ at now }
     {
@@ -25,6 +26,7 @@ impl Time {
 }
 
 // Not before and not after.
+#[tactic(auto, unfolding(crate::specs::Rules::in_date, record::specs::Parts::certificate_by))]
 pub fn in_date(time: Time, head: Head) -> bool
     ensures { (cert : Record) (s : List ℕ) → result ≡ in_date time (certificate_by head cert s) }
 {
@@ -32,6 +34,7 @@ pub fn in_date(time: Time, head: Head) -> bool
 }
 
 // X.509 v3, and the algorithm inside the signature is the one outside it.
+#[tactic(auto, unfolding(crate::specs::Rules::well_formed, record::specs::Parts::certificate_by))]
 pub fn well_formed(file: &[u8], head: Head, cert: Record) -> bool
     ensures { result ≡ well_formed (certificate_by head cert file.now) }
 {
@@ -45,6 +48,7 @@ pub fn well_formed(file: &[u8], head: Head, cert: Record) -> bool
 const V3: usize = 2;
 
 // No critical extension was left unhandled.
+#[tactic(auto, unfolding(crate::specs::Rules::handled, record::specs::Parts::certificate_by))]
 pub fn handled(head: Head) -> bool
     ensures { (cert : Record) (s : List ℕ) → result ≡ handled (certificate_by head cert s) }
 {
@@ -52,20 +56,17 @@ pub fn handled(head: Head) -> bool
 }
 
 // A CA, which may sign certificates where it says what its key is for.
+#[tactic(auto, unfolding(crate::specs::Rules::authority, record::specs::Parts::certificate_by))]
 pub fn authority(head: Head) -> bool
     ensures { (cert : Record) (s : List ℕ) → result ≡ authority (certificate_by head cert s) }
 {
     let flags = head.flags;
-    if has_flag(flags, Flags::CA) {
-        if has_flag(flags, Flags::KEY_USAGE) {
-            return has_flag(flags, Flags::MAY_SIGN);
-        }
-        return true;
-    }
-    false
+    has_flag(flags, Flags::CA)
+        && (!has_flag(flags, Flags::KEY_USAGE) || has_flag(flags, Flags::MAY_SIGN))
 }
 
 // How many certificates that count a path length lets stand between this one and the leaf; no limit where there is none.
+#[tactic(auto, using(crate::proofs::Limits::path_length_byte), unfolding(crate::specs::Limits::limit_of, record::specs::Parts::certificate_by))]
 pub fn limit(file: &[u8], head: Head, cert: Record) -> u8
     ensures { result ≡ limit_of (certificate_by head cert file.now) }
 {
@@ -76,5 +77,5 @@ pub fn limit(file: &[u8], head: Head, cert: Record) -> u8
     NO_LIMIT
 }
 
-// More certificates than a path can have.
+// More certificates than a path can have; a number and no Option, for limits stand in arrays of bytes (`place_limits` of policy).
 const NO_LIMIT: u8 = 255;
