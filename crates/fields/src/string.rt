@@ -6,7 +6,7 @@ ghost use Rattle.fields.specs.Answers.{spanned};
 use crate::{Fault, count_at};
 
 // A string's bytes in a file: from start up to end, which is the place past the string.
-#[derive(Clone, Copy, Debug, PartialEq, Eq)]
+#[derive(Clone, Copy)]
 pub struct Span {
     pub start: usize,
     pub end: usize,

@@ -6,8 +6,7 @@ ghost use Rattle.lists.specs.Runs.{dns_span_p, dns_names_p};
 
 use fields::{Fault, Reading, Run, Span, Thing, list_at, string_at};
 
-#[derive(Clone, Copy)]
-pub struct DnsName {}
+pub struct DnsName;
 
 impl DnsName {
     // Of its bytes.

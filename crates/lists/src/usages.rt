@@ -6,8 +6,7 @@ ghost use Rattle.lists.specs.Runs.{usages_p};
 
 use fields::{Fault, Reading, Run, Thing, byte_at, list_at};
 
-#[derive(Clone, Copy)]
-pub struct Usage {}
+pub struct Usage;
 
 impl Usage {
     // The highest.

@@ -10,9 +10,9 @@ use Rattle.names.specs.declared.attribute.Attribute.{Attribute}
 
 -- the places of an attribute's OID and value, by their limits
 unfoldable pub spans_p : ℕ → ℕ → ℕ → ℕ → List ℕ → ℕ → Parsed Attribute
-spans_p oidLeast oid_most valueLeast value_most s at =
-    after (span_p oidLeast oid_most s at) (λ o e.
-    after (span_p valueLeast value_most s e) (λ v f.
+spans_p oid_least oid_most value_least value_most s at =
+    after (span_p oid_least oid_most s at) (λ o e.
+    after (span_p value_least value_most s e) (λ v f.
     got (record { oid = o; value = v }) f))
 
 -- an attribute ends where its value does

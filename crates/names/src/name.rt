@@ -7,8 +7,7 @@ ghost use Rattle.names.specs.Names.{Attr, name_p};
 use crate::Rdn;
 use fields::{Fault, Run, Thing, run_at};
 
-#[derive(Clone, Copy)]
-pub struct Name {}
+pub struct Name;
 
 impl Name {
     pub const LEAST: usize = 0;
