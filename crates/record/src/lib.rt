@@ -65,7 +65,8 @@ impl Record {
         }
     }
 
-    // Version, flags and dates; zeros where they can't be read.
+    // Version, flags and dates; zeros where they can't be read. Inlined as `head_at` is.
+    #[inline]
     #[tactic(auto, unfolding(crate::specs::Parts::head_of))]
     pub fn head(self, file: &[u8]) -> Head
         ensures { result ≡ head_of self file.now }
