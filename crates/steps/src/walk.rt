@@ -87,6 +87,7 @@ fn roots_over(standing: Standing, issuers: u64, seats: &[u64; Seats::ROWS]) -> u
 }
 
 // The level after one, where the path goes on by place i, then stands so, and may go on by the next places.
+#[tactic(auto, unfolding(crate::specs::Parts::onward))]
 fn onward(level: Level, i: u8, standing: Standing, next: u64) -> Level
     ensures { (seats : List ℕ) → standing ≡ added seats level.standing i → result ≡ onward seats level i next }
 {
