@@ -1,4 +1,4 @@
 pub mod TaskAsked
 pub mod Bytes
-pub mod Numbers
 pub mod One
+pub mod Mapped

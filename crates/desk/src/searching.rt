@@ -14,7 +14,7 @@ use reply::Path;
 pub extern "C" fn savuneco_search(file: &[u8], room: &mut [u8]) -> Plain
     ensures { Says (Search (content_p file.now) room.old room.new) result }
 {
-    Plain::of(search::search(file, room))
+    search::search(file, room).into()
 }
 
 // Searches with budget k, and leaves the paths that wait then in the needed slots.
@@ -22,7 +22,7 @@ pub extern "C" fn savuneco_search(file: &[u8], room: &mut [u8]) -> Plain
 pub extern "C" fn savuneco_paused(file: &[u8], k: u64, room: &mut [u8]) -> Plain
     ensures { Says (Pause (content_p file.now) k room.old room.new) result }
 {
-    Plain::of(search::paused(file, k, room))
+    search::paused(file, k, room).into()
 }
 
 // The search in records, with the file's own budget: it leaves zeros in the needed records.
@@ -30,7 +30,7 @@ pub extern "C" fn savuneco_paused(file: &[u8], k: u64, room: &mut [u8]) -> Plain
 pub extern "C" fn savuneco_search_records(file: &[u8], records: &mut [Path]) -> Plain
     ensures { Says (Search (content_p file.now) (bytes_of records.old) (bytes_of records.new)) result }
 {
-    Plain::of(stack::search_records(file, records))
+    stack::search_records(file, records).into()
 }
 
 // The paused run in records, with budget k: it leaves the paths that wait then in the needed records.
@@ -38,7 +38,7 @@ pub extern "C" fn savuneco_search_records(file: &[u8], records: &mut [Path]) -> 
 pub extern "C" fn savuneco_paused_records(file: &[u8], k: u64, records: &mut [Path]) -> Plain
     ensures { Says (Pause (content_p file.now) k (bytes_of records.old) (bytes_of records.new)) result }
 {
-    Plain::of(stack::paused_records(file, k, records))
+    stack::paused_records(file, k, records).into()
 }
 
 // The slots that n certificates need; 0 past the table's end.
