@@ -1,5 +1,5 @@
 -- What stands in the way of a search, by its tests (`case_empty`, `case_cramped`, `case_runs`, `clear`), and what is answered then
--- (`stopped`, `answered_stops`, `answered-roomy`, `answered-over`). For the contracts of steps, search and report; the cases:
+-- (`stopped`, `lacking_some`, `answered_stops`, `answered-roomy`, `answered-over`). For the contracts of steps, search and report; the cases:
 -- specs/Answer.antt, their numbers: specs/Numbers.antt.
 use mathlib.Core.Bool.{Bool, true, false, cond, ◌&&◌}
 use mathlib.Core.List.{List, []}
@@ -12,9 +12,11 @@ use lib.Dec.{leb, ltb}
 use Rattle.places.specs.Limits.{bundle_most}
 use Rattle.order.specs.Slots.{slots_of}
 use Rattle.reply.specs.declared.Answer.{Answer}
+use Rattle.reply.specs.declared.Lack.{Lack}
+use Rattle.reply.specs.declared.Lack.TheVariants.{Certificates, Room}
 use Rattle.reply.specs.declared.Reply.TheVariants.{Error}
 use Rattle.reply.specs.Answer.{path_shown, Stops, empty, cramped, runs, case_of, Answered}
-use Rattle.reply.specs.Numbers.{fault_of}
+use Rattle.reply.specs.Numbers.{fault_of, lacking}
 use Rattle.reply.specs.Room.{has_room}
 use Rattle.reply.specs.Slots.{slot_bytes}
 use Rattle.reply.proofs.Says.{answer_one}
@@ -28,6 +30,11 @@ pub record Clear (n bytes : ℕ) : Type 0 where
 -- what `Answer::stopped` answers, where nothing is written
 pub stopped : {before : List ℕ} {a : Answer} {n e : ℕ} → n ≡ e → a.reply ≡ Error n → a.path ≡ path_shown [] → Stops e before before a
 stopped {a = a} {e = e} h says shows = record { says = answer_one a (record { reply = Error e; path = path_shown [] }) (says ∙ ap Error h) shows; kept = refl }
+
+-- what a search lacks has a number
+pub lacking_some : (l : Lack) → 0 < lacking l
+lacking_some Certificates = omega arith
+lacking_some Room = omega arith
 
 module _ (n b : ℕ) where
   pub room-few : n ≤ bundle_most → has_room n b ≡ leb (slots_of n) (b / slot_bytes)

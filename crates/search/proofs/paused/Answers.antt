@@ -4,13 +4,11 @@ use Rattle.reply.proofs.Faults.{stopped}
 use Rattle.search.proofs.Asked.{held_paused}
 use Rattle.search.proofs.paused.Goals as goal
 
-pub returns-in-Read : goal.returns-in-Read
-returns-in-Read c =
-    let p = c.pose-posed in
+pub returns-in-Ok : goal.returns-in-Ok
+returns-in-Ok c =
     let a = c.args in
-    held_paused _ _ p.result p.ensures a.room.now c.paused.new.room c.paused.result c.in-Read.is a.k c.paused.ensures
+    held_paused _ _ c.pose.result c.pose.ensures _ a.room.now c.paused.new.room c.paused.result c.in-Ok.is a.k c.paused.ensures
 
-pub returns-in-Stop : goal.returns-in-Stop
-returns-in-Stop c =
-    let p = c.pose-posed in
-    rw (stop-says _ _ p.result p.ensures _ c.in-Stop.is) (stopped c.number.ensures c.stopped.ensures.reply c.stopped.ensures.path)
+pub returns-in-Err : goal.returns-in-Err
+returns-in-Err c =
+    rw (stop-says _ _ c.pose.result c.pose.ensures _ c.in-Err.is) (stopped c.into.ensures c.stopped.ensures.reply c.stopped.ensures.path)
