@@ -7,16 +7,15 @@ use Prim.Native.Nat.{ℕ, ◌-◌, ◌*◌, ◌<◌}
 use native.Mathlib.Omega.{arith}
 use lib.ListN.{length}
 use Rattle.std.proofs.Common.{Option, Some, None, cond}
-use Rattle.std.specs.Prelude.{unwrap_or, is_some}
+use Rattle.std.specs.Prelude.{Result, Ok, unwrap_or, is_some}
+use Rattle.fields.specs.Answers.{numbered}
+use Rattle.fields.specs.declared.fault.Fault.{Fault}
 use Rattle.order.specs.Walk.{stack}
 use Rattle.policy.specs.Standing.{Seated}
 use Rattle.card.specs.Card.{file_p}
 use Rattle.card.specs.Content.{content_p}
-use Rattle.card.specs.declared.Ended.TheVariants.{Read}
 use Rattle.fields.specs.Fields.{stop}
-use Rattle.question.specs.Question.{places_of, roots_of, posed_as, posed}
-use Rattle.question.specs.declared.Posed.{Posed}
-use Rattle.question.specs.declared.When.TheVariants as when
+use Rattle.question.specs.Question.{places_of, roots_of, posed}
 use Rattle.question.specs.declared.Question.{Question}
 use Rattle.reply.specs.Answer.{Stops, Paused, Searched, case_of}
 use Rattle.reply.specs.Laid.{holding}
@@ -90,19 +89,19 @@ module _ (q : Question) (count : ℕ) (paused : Option ℕ) where
 
 -- ---- of a file
 
-module _ (s : List ℕ) (x : Posed) (is : posed_as x ≡ posed s when.Own (file_p s)) (o : x.ended ≡ Read) (count : ℕ) (paused : Option ℕ) where
+module _ (s : List ℕ) (x : Result Question Fault) (is : numbered x ≡ posed s None (file_p s)) (q : Question) (o : x ≡ Ok q) (count : ℕ) (paused : Option ℕ) where
   -- an answer to the question is one to the file
-  ran_over : (before after : List ℕ) (a : Answer) → RanOver paused x.question before after a → Ran paused (content_p s) before after a
+  ran_over : (before after : List ℕ) (a : Answer) → RanOver paused q before after a → Ran paused (content_p s) before after a
   ran_over = go paused
     where
-      go : (p : Option ℕ) (before after : List ℕ) (a : Answer) → RanOver p x.question before after a → Ran p (content_p s) before after a
-      go (Some k) before after a = held_paused s when.Own x is before after a o k
-      go None before after a = searched s when.Own x is before after a o
+      go : (p : Option ℕ) (before after : List ℕ) (a : Answer) → RanOver p q before after a → Ran p (content_p s) before after a
+      go (Some k) before after a = held_paused s None x is q before after a o k
+      go None before after a = searched s None x is q before after a o
 
-  pub leads_read : (b : Begun) → Leads count (RanOver paused x.question) b → Leads count (Ran paused (content_p s)) b
+  pub leads_read : (b : Begun) → Leads count (RanOver paused q) b → Leads count (Ran paused (content_p s)) b
   leads_read b L = record { fair = L.fair; answers = λ l w n a after r. ran_over (bytes_of l) (bytes_of after) a (L.answers l w n a after r) }
 
-  pub unbegun_read : (e : ℕ) → Unbegun count (RanOver paused x.question) e → Unbegun count (Ran paused (content_p s)) e
+  pub unbegun_read : (e : ℕ) → Unbegun count (RanOver paused q) e → Unbegun count (Ran paused (content_p s)) e
   unbegun_read e U l n = ran_over l l _ (U l n)
 
 -- where the file can't be read, the answer is why
