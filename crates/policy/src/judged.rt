@@ -14,7 +14,8 @@ use record::{Head, Record};
 use rows::{has, shared, with, without};
 use rules::{Time, authority, for_host, for_servers, handled, in_date, limit, well_formed};
 
-// The places that may stand somewhere in a chain, and for each how many certificates that count its path length lets stand below it.
+// The places that may stand somewhere in a chain, and for each how many certificates that count its path length lets stand below it. The
+// places are a row, beside an array of the limits, since rows are joined and parted whole.
 #[derive(Clone, Copy)]
 pub struct Sound<const MOST: usize> {
     pub sound: u64,
