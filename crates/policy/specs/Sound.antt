@@ -2,7 +2,7 @@
 -- whether it counts. Then all the facts of a card that a search asks (`judged_of`), which is the contract of `judge`.
 -- Not here: the policy on a chain (Policy.antt), and that it comes to this (`policy_by_seat` of proofs/Chains.antt, and proofs/SeatsRead.antt);
 -- a path judged by these facts (Judging.antt).
-use Rattle.std.specs.Prelude.{ℕ, Bool, cond, not, ◌&&◌, List, replicate}
+use Rattle.std.specs.Prelude.{ℕ, Bool, cond, not, ◌&&◌, List}
 use Rattle.places.specs.Limits.{roots_most, bundle_most}
 use Rattle.fields.specs.Spans.{bytes_of}
 use Rattle.record.specs.Certificate.{Certificate}
@@ -79,15 +79,4 @@ judged_of s time c =
       above = record { sound = sound_roots s time (root_issuers s c) c.roots; limits = root_limits s (root_issuers s c) c.roots };
       leaves = sound_leaves s time (bytes_of c.task.host.name s) c.bundle;
       counted = counted_places s (sound_places s time c.bundle) c.bundle;
-    }
-
--- what stands where no card was read
-abbrev pub fresh_judged : Judged
-fresh_judged =
-    record {
-      issuing = record { bundle = replicate bundle_most 0; roots = replicate bundle_most 0 };
-      between = record { sound = 0; limits = replicate bundle_most 0 };
-      above = record { sound = 0; limits = replicate roots_most 0 };
-      leaves = 0;
-      counted = 0;
     }

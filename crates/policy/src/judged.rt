@@ -4,7 +4,7 @@ ghost use Rattle.rows.specs.Rows.{joined, common, left};
 ghost use Rattle.record.specs.Parts.{certificate_by};
 ghost use Rattle.record.specs.declared.Record.{Record};
 ghost use Rattle.rules.specs.Records.{for_servers_at, for_host_at};
-ghost use Rattle.policy.specs.Sound.{leaf_sound_at, between_sound, top_sound, sound_places, place_limits, sound_roots, root_limits, sound_leaves, counted_places, judged_of, fresh_judged};
+ghost use Rattle.policy.specs.Sound.{leaf_sound_at, between_sound, top_sound, sound_places, place_limits, sound_roots, root_limits, sound_leaves, counted_places, judged_of};
 
 use card::{Bundle, BundlePlace, Card, RootPlace, Roots};
 use extensions::Extensions;
@@ -14,7 +14,8 @@ use record::{Head, Record};
 use rows::{has, shared, with, without};
 use rules::{Time, authority, for_host, for_servers, handled, in_date, limit, well_formed};
 
-// The places that may stand somewhere in a chain, and for each how many certificates that count its path length lets stand below it.
+// The places that may stand somewhere in a chain, and for each how many certificates that count its path length lets stand below it. The
+// places are a row, beside an array of the limits, since rows are joined and parted whole.
 #[derive(Clone, Copy)]
 pub struct Sound<const MOST: usize> {
     pub sound: u64,
@@ -78,24 +79,6 @@ pub struct Judged {
     pub above: Above,
     pub leaves: u64,
     pub counted: u64,
-}
-
-impl Judged {
-    // The facts of no card: none issued any, and none may stand anywhere.
-    pub fn new() -> Judged
-        ensures { result ≡ fresh_judged }
-    {
-        Judged {
-            issuing: Issuing {
-                bundle: [0u64; Bundle::MOST],
-                roots: [0u64; Bundle::MOST],
-            },
-            between: Between::none(),
-            above: Above::none(),
-            leaves: 0,
-            counted: 0,
-        }
-    }
 }
 
 // A card's certificates, each compared and judged once, at a time; of the roots only those that issued any, since no path reaches another.

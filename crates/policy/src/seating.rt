@@ -10,7 +10,8 @@ use rows::{below, each, either, with};
 use std::cmp::min;
 
 // Three rows for each seat: the roots that may stand above, the places that may come next and count, and those that may and don't. Seat 0
-// is none, seat 1 is before the leaf, and each after it is above the leaf and one certificate more that counts.
+// is none, seat 1 is before the leaf, and each after it is above the leaf and one certificate more that counts. The rows of the three kinds
+// are one array, since `Seated`, by which steps, stack and drawer read them, speaks of one; `fill_from` fills a part of it for each kind.
 #[derive(Clone, Copy)]
 pub struct Seats {
     pub rows: [u64; Seats::ROWS],
@@ -38,7 +39,7 @@ pub fn seats_of(judged: Judged, after: u8) -> Seats
     Seats { rows }
 }
 
-// The same in lent rows, whatever they held.
+// The same in lent rows, whatever they held, for a caller that keeps no copy.
 pub fn seats_in(rows: &mut [u64; Seats::ROWS], judged: Judged, after: u8)
     ensures { Seated judged after rows.new }
 {

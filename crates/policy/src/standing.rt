@@ -6,7 +6,8 @@ ghost use Rattle.policy.specs.Standing.{begun, over, added};
 use crate::Seats;
 use rows::has;
 
-// How a path stands: its seat. It grows by one with each certificate that counts, and is 0 if one may not stand where it does.
+// How a path stands: its seat. It grows by one with each certificate that counts, and is 0 if one may not stand where it does: an index like
+// the others, whose rows are empty, so that a step looks there as anywhere, and no `None` is asked for.
 #[derive(Clone, Copy)]
 pub struct Standing {
     pub seat: usize,
@@ -20,6 +21,7 @@ pub fn begun() -> Standing
 }
 
 // The roots that may stand above a path, whoever issued its last place.
+#[tactic(auto, unfolding(crate::specs::Standing::over))]
 pub fn over(seats: &[u64; Seats::ROWS], standing: Standing) -> u64
     ensures { result ≡ over seats.now standing }
 {
@@ -31,6 +33,7 @@ pub fn over(seats: &[u64; Seats::ROWS], standing: Standing) -> u64
 }
 
 // How a path stands that goes on by a place.
+#[tactic(auto, unfolding(crate::specs::Standing::added))]
 pub fn added(seats: &[u64; Seats::ROWS], standing: Standing, place: u8) -> Standing
     ensures { result ≡ added seats.now standing place }
 {

@@ -1,4 +1,5 @@
 // A row: a set of places as the bits of one number. A row has room for as many places as any limit asks, so that one width serves all.
+// It stays a plain number: the crates above hand rows on in arrays of numbers, and a type of its own would be unwrapped at each of them.
 #![tactic(auto)]
 
 mod coming;

@@ -31,7 +31,8 @@ pub fn paused(room: &mut [u8], question: Question, budget: u64) -> Answer
     answer_of(end)
 }
 
-// Searches with the question's own budget, and leaves zeros in the needed slots.
+// Searches with the question's own budget, and leaves zeros in the needed slots. It begins as the paused run does; a function of both
+// would hand out the refusal and the end of the walk, and be no shorter.
 pub fn search(room: &mut [u8], question: Question) -> Answer
     ensures { Answered (λ q. Searched (places_of q) (roots_of q) q.budget room.old room.new result) (case_of question question.size (length room.old)) room.old room.new result }
 {

@@ -98,7 +98,7 @@ fn onward(level: Level, i: u8, standing: Standing, next: u64) -> Level
     }
 }
 
-// The walk from where it stands on.
+// The walk from where it stands on. Its depth and its level stand apart from the arrays, so that a step finds them in registers.
 pub(crate) fn walk(from: Depths, n: u8, ground: Ground, budget: u64) -> End
     requires { (n ≤ bundle_most) × Ready (places_by ground.rows.now n) ground.seats.now from }
     ensures { Stopped (places_by ground.entry.rows.now n) (Ends (places_by ground.entry.rows.now n) (roots_seated ground.entry.roots.now ground.entry.seats.now) budget (stack_of n from)) (stack_of n from) result }
