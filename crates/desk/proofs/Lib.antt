@@ -1,4 +1,3 @@
 pub mod TaskAsked
-pub mod Bytes
 pub mod One
 pub mod Mapped

@@ -9,7 +9,7 @@ pub mapped : {F A B : Type 0} (g : Mut F (A × Unit {0}) B) (f : F) (h : A → B
 mapped g f h d xs ys n made long each =
     let e : length ys ≡ length (map h xs) = made.long ∙ sym long ∙ sym (length-map xs h) in
     same_lists ys (map h xs) e (λ i y k.
-        let j : i < n = omega (arith, made.long) in
-        let m : i < length xs = omega arith in
-        let called = made.at i d y j in
-        each called.0 called.1 (get_or xs i d) (get_or ys i y) called.2 ∙ sym (get_or-map h xs i d y m))
+    let j : i < n = omega (arith, made.long) in
+    let m : i < length xs = omega arith in
+    let called = made.at i d y j in
+    each called.0 called.1 (get_or xs i d) (get_or ys i y) called.2 ∙ sym (get_or-map h xs i d y m))

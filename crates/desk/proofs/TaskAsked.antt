@@ -1,5 +1,5 @@
--- What a file asks. For the proof of `savuneco_task`: a reading in plain numbers is what its file asks (`reading_asks`), and its host's end
--- is not before its start (`host_ordered`). For who reads the answer: the bytes from the host's place to the file's end are the host
+-- What a file asks. For the proof of `savuneco_task`: a card in plain numbers is what its file asks (`card_asks`), its host's end is not
+-- before its start (`host_ordered`), and a file that can't be read asks for nothing (`fault_asks`). For who reads the answer: the bytes from the host's place to the file's end are the host
 -- (`host-stands`); where the file can't be read the number is one of 4 to 9 (`fault_number`), and the search says the same (`fault_searched`).
 -- Definition: specs/Asked.antt; that what was read is what the file says: card/proofs/Values.antt.
 use Prim.Native.Nat.{ℕ, ◌-◌, ◌≤◌}
@@ -11,14 +11,13 @@ use lib.Seq.{take_all}
 use Rattle.fields.specs.Fields.{Parsed, got, stop}
 use Rattle.fields.specs.declared.string.Span.{Span}
 use Rattle.fields.proofs.Strings.{bytes-length}
-use Rattle.card.specs.Answers.{answer}
 use Rattle.card.specs.Card.{file_p}
 use Rattle.card.specs.Content.{Content, content_p}
 use Rattle.card.specs.Parts.{content_of}
 use Rattle.card.specs.declared.Card.{Card}
 use Rattle.card.proofs.Sections.{CardRead, card_read}
 use Rattle.card.proofs.Standing.{roots_counted, bundle_counted}
-use Rattle.card.proofs.Stops.{file_stops}
+use Rattle.card.proofs.Stops.{file_stops, WasRead}
 use Rattle.card.proofs.Values.{content_got, content_stops}
 use Rattle.reply.specs.Answer.{Stops}
 use Rattle.reply.proofs.Says.{stops_reply}
@@ -54,36 +53,36 @@ module _ (s : List ℕ) (c : Card) (e : ℕ) (t : CardRead s c e) where
 
 -- ---- on a file
 
--- a number and a card in plain numbers
-abbrev pub asking : ℕ × Card → Asked
-asking (n, c) =
+-- a card in plain numbers
+abbrev pub asking : Card → Asked
+asking c =
     record {
       now = c.task.now;
       budget = c.task.budget;
       host_at = (host_of c).start;
       host_length = (host_of c).end - (host_of c).start;
-      number = n;
+      number = 0;
       roots = c.roots.count;
       certificates = c.bundle.count;
     }
 
-module _ (s : List ℕ) where
-  pub reading_asks : asking (answer (file_p s)) ≡ asked_by (length s) (content_p s)
-  unfolding asked_by content_of
-  reading_asks = by_file (file_p s) refl
-    where
-      by_file : (x : Parsed Card) → file_p s ≡ x → asking (answer x) ≡ asked_by (length s) (content_p s)
-      by_file (got c e) k =
-          let t = card_read s c e k in
-          rw (content_got s c e k, host-long s c e t, host-starts s c e t, roots_counted s c e t, bundle_counted s c e t)
-      by_file (stop r) k = rw (content_stops s r k)
+-- nothing, and the number of a fault
+abbrev pub asking_nothing : ℕ → Asked
+asking_nothing r = record { now = 0; budget = 0; host_at = 0; host_length = 0; number = r; roots = 0; certificates = 0 }
 
-  pub host_ordered : (host_of (answer (file_p s)).1).start ≤ (host_of (answer (file_p s)).1).end
-  host_ordered = by_file (file_p s) refl
-    where
-      by_file : (x : Parsed Card) → file_p s ≡ x → (host_of (answer x).1).start ≤ (host_of (answer x).1).end
-      by_file (got c e) k = (card_read s c e k).host.is.ordered
-      by_file (stop r) k = omega arith
+module _ (s : List ℕ) where
+  pub card_asks : (c : Card) → WasRead s c → asking c ≡ asked_by (length s) (content_p s)
+  unfolding asked_by content_of
+  card_asks c read =
+      let t = card_read s c read.end read.is in
+      rw (content_got s c read.end read.is, host-long s c read.end t, host-starts s c read.end t, roots_counted s c read.end t, bundle_counted s c read.end t)
+
+  pub fault_asks : (r : ℕ) → file_p s ≡ stop r → asking_nothing r ≡ asked_by (length s) (content_p s)
+  unfolding asked_by
+  fault_asks r k = rw (content_stops s r k)
+
+  pub host_ordered : (c : Card) → WasRead s c → (host_of c).start ≤ (host_of c).end
+  host_ordered c read = (card_read s c read.end read.is).host.is.ordered
 
   pub host-stands : (c : Content) (e : ℕ) → content_p s ≡ got c e → drop (asked_by (length s) (content_p s)).host_at s ≡ c.host
   unfolding asked_by

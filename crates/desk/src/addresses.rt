@@ -8,5 +8,5 @@ ghost use Rattle.desk.specs.Leaves.{yes_no};
 pub extern "C" fn savuneco_ip_addr_in_range(range: &[u8], addr: &[u8]) -> u8
     ensures { result ≡ yes_no (ip_addr_in_range range.now addr.now) }
 {
-    keys::ip_addr_in_range(range, addr) as u8
+    keys::ip_addr_in_range(range, addr).into()
 }

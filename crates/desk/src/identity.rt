@@ -1,8 +1,8 @@
 // Authority key identifiers for C.
 ghost use Rattle.std.specs.Prelude.{◌≡◌};
 ghost use Rattle.keys.specs.AuthKeyId.{check_auth_key_id};
-ghost use Rattle.keys.specs.Given.{given};
-ghost use Rattle.desk.specs.Leaves.{flagged, yes_no};
+ghost use Rattle.keys.specs.Given as lent;
+ghost use Rattle.desk.specs.Leaves.{flagged, given, yes_no};
 
 // Whether what a subject says of its issuer's key fits the issuer. A part that is not present is not read.
 #[unsafe(no_mangle)]
@@ -21,13 +21,15 @@ pub extern "C" fn savuneco_check_auth_key_id(
         (given (flagged has_skid) skid.now)
         serial.now) }
 {
-    keys::check_auth_key_id(
-        has_akid != 0,
-        akid,
-        has_aserial != 0,
-        aserial,
-        has_skid != 0,
-        skid,
-        serial,
-    ) as u8
+    let akid = part(has_akid, akid);
+    let aserial = part(has_aserial, aserial);
+    let skid = part(has_skid, skid);
+    keys::check_auth_key_id(akid, aserial, skid, serial).into()
+}
+
+// A part, where its flag says that it is present.
+fn part(has: u8, bytes: &[u8]) -> Option<&[u8]>
+    ensures { lent.given result ≡ given (flagged has) bytes.now }
+{
+    (has != 0).then_some(bytes)
 }

@@ -23,7 +23,7 @@ pub use relations::{
     savuneco_same_dn, savuneco_same_rdn,
 };
 pub use reply::{Answer, Path, Reply};
-pub use same::{Related, same_attr, same_dn, same_rdn};
+pub use same::{number, same_attr, same_dn, same_rdn};
 pub use search::{paused, search};
 pub use searching::{
     savuneco_paused, savuneco_paused_records, savuneco_search, savuneco_search_records,
@@ -32,5 +32,5 @@ pub use searching::{
 pub use stack::{paused_records, search_records};
 pub use subtree::{is_subtree_of, is_subtree_rdn, rdn_has_name};
 pub use tasks::{Asked, savuneco_task};
-pub use text::{Normalized, match_name, normalize_string};
+pub use text::{match_name, normalize_string};
 pub use texts::{Form, savuneco_match_name, savuneco_normalize};

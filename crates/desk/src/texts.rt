@@ -1,10 +1,8 @@
 // Texts for C: a string's normal form, and a host name under a pattern.
 ghost use Rattle.std.specs.Prelude.{◌≡◌};
-ghost use Rattle.text.specs.Normalize.{form_of, normalized, written};
+ghost use Rattle.text.specs.Normalize.{normalized, written};
 ghost use Rattle.text.specs.Wildcard.{match_name};
 ghost use Rattle.desk.specs.Leaves.{yes_no, formed};
-
-use text::Normalized;
 
 // The normal form's length and number 0, or length 0 and number 10.
 #[repr(C)]
@@ -14,17 +12,20 @@ pub struct Form {
     pub number: u8,
 }
 
-impl Form {
-    // The same answer in plain numbers.
-    pub fn of(answer: Normalized) -> Form
-        ensures { result ≡ formed (form_of answer) }
-    {
-        match answer {
-            Normalized::Length(bytes) => Form {
+// The same answer in plain numbers.
+impl From<Option<usize>> for Form {
+    ghost use Rattle.text.specs.Normalize.{form_of};
+    ghost use Rattle.desk.specs.Leaves.{formed};
+
+    ghost from_gives = { λ length form. form ≡ formed (form_of length) };
+
+    fn from(length: Option<usize>) -> Form {
+        match length {
+            Some(bytes) => Form {
                 length: bytes as u64,
                 number: 0,
             },
-            Normalized::NoRoom => Form {
+            None => Form {
                 length: 0,
                 number: 10,
             },
@@ -38,7 +39,7 @@ pub extern "C" fn savuneco_normalize(s: &[u8], out: &mut [u8]) -> Form
     ensures answer { result ≡ formed (normalized s.now out.old) }
     ensures room { out.new ≡ written s.now out.old }
 {
-    Form::of(text::normalize_string(s, out))
+    text::normalize_string(s, out).into()
 }
 
 // Whether a name fits a pattern.
@@ -46,5 +47,5 @@ pub extern "C" fn savuneco_normalize(s: &[u8], out: &mut [u8]) -> Form
 pub extern "C" fn savuneco_match_name(pattern: &[u8], name: &[u8]) -> u8
     ensures { result ≡ yes_no (match_name pattern.now name.now) }
 {
-    text::match_name(pattern, name) as u8
+    text::match_name(pattern, name).into()
 }

@@ -5,12 +5,11 @@
 ghost use Rattle.std.specs.Prelude.{◌≡◌, length};
 ghost use Rattle.card.specs.Content.{content_p};
 ghost use Rattle.desk.specs.Asked.{asked_by};
-ghost use Rattle.desk.specs.Leaves.{flagged, formed, yes_no};
+ghost use Rattle.desk.specs.Leaves.{flagged, formed, given, yes_no};
 ghost use Rattle.desk.specs.Plain.{Says};
 ghost use Rattle.fields.specs.Fields.{whole};
 ghost use Rattle.keys.specs.Address.{ip_addr_in_range};
 ghost use Rattle.keys.specs.AuthKeyId.{check_auth_key_id};
-ghost use Rattle.keys.specs.Given.{given};
 ghost use Rattle.names.specs.Names.{attr_p, rdn_p, name_p};
 ghost use Rattle.order.specs.Slots.{slots_of};
 ghost use Rattle.reply.specs.Records.{bytes_of};
@@ -64,7 +63,7 @@ pub extern "C" fn savuneco_slots(n: u8) -> u8
     desk::savuneco_slots(n)
 }
 
-// Reads the file, and searches nothing. The card of a file that can't be read is nothing but zeros.
+// Reads the file, and searches nothing.
 #[unsafe(no_mangle)]
 pub extern "C" fn savuneco_task(file: &[u8]) -> Asked
     ensures { result ≡ asked_by (length file.now) (content_p file.now) }

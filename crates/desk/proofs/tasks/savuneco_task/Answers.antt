@@ -1,16 +1,16 @@
 -- `savuneco_task` says in plain numbers what `read` reads.
-use mathlib.Core.Path.{ap, ◌∙◌}
-use Prim.Native.Nat.{◌≤◌}
-use native.Mathlib.Omega.{arith}
-use Rattle.desk.proofs.TaskAsked.{asking, reading_asks, host_ordered}
+use Rattle.std.proofs.Common.{rules}
+use Rattle.card.proofs.Stops.{answered_read, answered_stopped}
+use Rattle.desk.proofs.TaskAsked.{card_asks, fault_asks, host_ordered}
 use Rattle.desk.proofs.tasks.savuneco_task.Goals as goal
 
 pub overflow_sub-result : goal.overflow_sub-result
-overflow_sub-result c =
-    let read = c.read-reading in
-    let host = read.result.card.task.host.name in
-    let ordered : host.start ≤ host.end = rw (ap (λ p. p.1) read.ensures) (host_ordered _) in
-    omega arith
+overflow_sub-result c = host_ordered _ _ (answered_read _ _ c.read.ensures _ c.in-Ok.is)
 
-pub returns : goal.returns
-returns c = rw c.number_of.ensures (ap asking c.read-reading.ensures ∙ reading_asks _)
+pub returns-in-Ok : goal.returns-in-Ok
+returns-in-Ok c = card_asks _ _ (answered_read _ _ c.read.ensures _ c.in-Ok.is)
+
+pub returns-in-Err : goal.returns-in-Err
+returns-in-Err c =
+    let e = fault_asks c.args.file.now _ (answered_stopped _ _ c.read.ensures _ c.in-Err.is) in
+    cc

@@ -14,7 +14,7 @@ returns c =
     let many : length places ≡ bundle_most = search rules in
     let path : c.map.result ≡ numbers places = mapped _ _ (λ p. p.0) (placed 0) places c.map.result _ c.map.ensures.items many (λ p q x y called. search rules) in
     elim c.match-answer.branch [
-      in-Accepted w ↦ rw (path, w.number-is, w.in-Accepted.is)
+      | in-Accepted w ↦ rw (path, w.number-is, w.in-Accepted.is)
       | in-Refused w ↦ rw (path, w.number-is, w.in-Refused.is)
       | in-Exhausted w ↦ rw (path, w.number-is, w.in-Exhausted.is)
       | in-Error w ↦ rw (path, w.number-is, w.in-Error.is)
