@@ -1,12 +1,11 @@
--- One place more. What the code answers, branch by branch: `added-counts`, `added_keeps`, `added_stops`, `added_past`, `over-there`,
--- `over_past`. How a path stands is how it stood before its last place, and that place added (`standing-more`); its roots are those over it
--- then (`over-more`): these two are for steps/proofs/Levels.antt. Definitions: specs/Standing.antt; that these roots are the policy's:
--- Qualifying.antt.
-use Prim.Native.Nat.{ℕ, ◌+◌, ◌≤◌, ◌<◌}
+-- One place more, by cases (`added-counts`, `added_keeps`, `added_stops`), and the roots over a path (`over-there`). How a path stands is
+-- how it stood before its last place, and that place added (`standing-more`); its roots are those over it then (`over-more`): these two are
+-- for steps/proofs/Levels.antt. Definitions: specs/Standing.antt; that these roots are the policy's: Qualifying.antt.
+use Prim.Native.Nat.{ℕ, ◌+◌, ◌<◌}
 use mathlib.Core.Bool.{true, false}
 use mathlib.Core.List.{List, [], ◌∷◌, ◌++◌}
 use mathlib.Core.Path.{◌≡◌, refl}
-use borrow.Author.Tests.{lt-ltb, le-ltb}
+use borrow.Author.Tests.{lt-ltb}
 use lib.ListN.{get_or}
 use Rattle.rows.specs.Rows.{has, common}
 use Rattle.order.proofs.Simple.{last_snoc}
@@ -28,18 +27,10 @@ module _ (seats : List ℕ) where
       unfolding added
       added_stops c o = rw (lt-ltb s.seat seats_most seat, c, o)
 
-    pub added_past : seats_most ≤ s.seat → fresh-standing ≡ added seats s i
-    unfolding added
-    added_past h = rw (le-ltb s.seat seats_most h)
-
   module _ (s : Standing) where
     pub over-there : s.seat < seats_most → roots_at seats s.seat ≡ over seats s
     unfolding over
     over-there h = rw (lt-ltb s.seat seats_most h)
-
-    pub over_past : seats_most ≤ s.seat → 0 ≡ over seats s
-    unfolding over
-    over_past h = rw (le-ltb s.seat seats_most h)
 
   added-last : (s : Standing) (l : List ℕ) (i : ℕ) → added_all seats s (l ++ i ∷ []) ≡ added seats (added_all seats s l) i
   unfolding added_all
