@@ -9,8 +9,7 @@ use Rattle.record.specs.Certificate.{Certificate}
 use Rattle.record.specs.Parts.{head_of, extensions_of, certificate_of}
 use Rattle.record.specs.declared.Record.{Record}
 use Rattle.certificates.specs.Certificates.{record_of, size_of}
-use Rattle.certificates.specs.declared.roots.Roots.{Roots}
-use Rattle.certificates.specs.declared.bundle.Bundle.{Bundle}
+use Rattle.certificates.specs.declared.certificates.Certificates.{Certificates}
 use Rattle.card.specs.declared.Card.{Card}
 use Rattle.rows.specs.Rows.{has, row_of, listing}
 use Rattle.issuing.specs.Records.{self_issued_at, bundle_rows, root_rows, issuers_of}
@@ -39,30 +38,30 @@ leaf_sound_at s time host r =
 
 -- ---- of a card's places
 
-abbrev pub place_of : List ℕ → Bundle → ℕ → Certificate
+abbrev pub place_of : List ℕ → Certificates bundle_most → ℕ → Certificate
 place_of s b i = certificate_of (record_of b.count b.records i) s
 
-abbrev pub root_of : List ℕ → Roots → ℕ → Certificate
+abbrev pub root_of : List ℕ → Certificates roots_most → ℕ → Certificate
 root_of s r i = certificate_of (record_of r.count r.records i) s
 
-unfoldable pub sound_places : List ℕ → Time → Bundle → ℕ
+unfoldable pub sound_places : List ℕ → Time → Certificates bundle_most → ℕ
 sound_places s time b = row_of (λ i. between_sound time (place_of s b i)) (size_of bundle_most b.count)
 
-unfoldable pub place_limits : List ℕ → Bundle → List ℕ
+unfoldable pub place_limits : List ℕ → Certificates bundle_most → List ℕ
 place_limits s b = listing bundle_most (size_of bundle_most b.count) (λ i. limit_of (place_of s b i))
 
 -- of the roots those that are asked for
-unfoldable pub sound_roots : List ℕ → Time → ℕ → Roots → ℕ
+unfoldable pub sound_roots : List ℕ → Time → ℕ → Certificates roots_most → ℕ
 sound_roots s time asked r = row_of (λ i. has i asked && top_sound time (root_of s r i)) (size_of roots_most r.count)
 
-unfoldable pub root_limits : List ℕ → ℕ → Roots → List ℕ
+unfoldable pub root_limits : List ℕ → ℕ → Certificates roots_most → List ℕ
 root_limits s asked r = listing roots_most (size_of roots_most r.count) (λ i. cond (has i asked) (limit_of (root_of s r i)) 0)
 
-unfoldable pub sound_leaves : List ℕ → Time → List ℕ → Bundle → ℕ
+unfoldable pub sound_leaves : List ℕ → Time → List ℕ → Certificates bundle_most → ℕ
 sound_leaves s time host b = row_of (λ i. leaf_sound_at s time host (record_of b.count b.records i)) (size_of bundle_most b.count)
 
 -- of these places of the bundle those that path lengths count: they are not self-issued
-unfoldable pub counted_places : List ℕ → ℕ → Bundle → ℕ
+unfoldable pub counted_places : List ℕ → ℕ → Certificates bundle_most → ℕ
 counted_places s sound b = row_of (λ i. has i sound && not (self_issued_at s (record_of b.count b.records i))) (size_of bundle_most b.count)
 
 -- ---- the facts
