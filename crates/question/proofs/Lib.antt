@@ -2,4 +2,3 @@ pub mod Alike
 pub mod Asked
 pub mod Meaning
 pub mod Pinned
-pub mod Posing

@@ -29,6 +29,7 @@ pub fn pose(file: &[u8], time: Option<Time>) -> Result<Question, Fault>
 }
 
 // The question of a card, whose certificates stand in the file.
+#[tactic(auto, unfolding(crate::specs::Question::question_of))]
 fn put(file: &[u8], time: Option<Time>, card: Card) -> Question
     ensures { result ≡ question_of file.now time card }
 {
