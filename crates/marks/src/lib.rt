@@ -3,12 +3,13 @@
 #![tactic(auto)]
 
 ghost use Rattle.std.specs.Prelude.{[], ◌≡◌};
-ghost use Rattle.marks.specs.Marks.{mark_at, marking};
+ghost use Rattle.marks.specs.Marks.{mark_at};
 
 use places::BundlePlace;
 use reply::{Answer, Path};
 
-// A length and as many places as a path has; a fresh one has length 0. Places past the length are not read.
+// A length and as many places as a path has; a fresh one has length 0. Places past the length are not read. It is no Path, since to C
+// they will be two structs (docs/unfinished, savuneco_mark and savuneco_path).
 #[repr(C)]
 #[derive(Clone, Copy)]
 pub struct Mark {
@@ -21,18 +22,19 @@ impl Mark {
     pub fn fresh() -> Mark
         ensures { result ≡ mark_at [] }
     {
-        Mark::at(Path::new())
+        Path::new().into()
     }
+}
 
-    // The mark at a path.
-    pub fn at(path: Path) -> Mark
-        ensures { result ≡ marking path }
-    {
-        let places = path.places;
-        Mark {
-            length: path.length,
-            places,
-        }
+// The mark at a path.
+impl From<Path> for Mark {
+    ghost use Rattle.marks.specs.Marks.{marking};
+
+    ghost from_gives = { λ path mark. mark ≡ marking path };
+
+    fn from(path: Path) -> Mark {
+        let Path { length, places } = path;
+        Mark { length, places }
     }
 }
 

@@ -4,6 +4,7 @@ pub mod Faults
 pub mod Laid
 pub mod Least
 pub mod Left
+pub mod Pinned
 pub mod Room
 pub mod Says
 pub mod Settled

@@ -14,7 +14,8 @@ use order::slots;
 pub use path::Path;
 use places::{BundlePlace, RootPlace};
 
-// The replies to a card file; those from 3 up by the number that the card-file paper gives them.
+// The replies to a card file; those from 3 up by the number that the card-file paper gives them. `Error` is no enum of its own, since
+// `line_of` of report and `Plain` of desk answer for every number.
 #[derive(Clone, Copy)]
 pub enum Reply {
     Accepted { root: RootPlace, steps: u64 },
@@ -49,8 +50,7 @@ impl Answer {
 }
 
 // A slot of the lent room: a length, then as many places as a path can have.
-#[derive(Clone, Copy)]
-pub struct Slot {}
+pub struct Slot;
 
 impl Slot {
     pub const BYTES: usize = BundlePlace::MOST + 1;
@@ -80,19 +80,21 @@ impl From<Lack> for u8 {
 }
 
 // Whether a search over n certificates in a room of so many bytes lacks nothing, or else what.
+#[tactic(auto, unfolding(crate::specs::Answer::case_of))]
 pub fn room_for(n: u8, bytes: usize) -> Result<(), Lack>
     ensures { lacked result ≡ fault_of (case_of n n bytes) }
 {
     if n == 0 {
         return Err(Lack::Certificates);
     }
-    if has_room(n, bytes) {
-        return Ok(());
+    if !has_room(n, bytes) {
+        return Err(Lack::Room);
     }
-    Err(Lack::Room)
+    Ok(())
 }
 
 // Whether so many bytes hold the slots that n certificates need.
+#[tactic(auto, unfolding(crate::specs::Room::has_room))]
 fn has_room(n: u8, bytes: usize) -> bool
     ensures { result ≡ has_room n bytes }
 {

@@ -15,6 +15,7 @@ pub struct Path {
 
 impl Path {
     // No places.
+    #[tactic(auto, unfolding(crate::specs::Answer::path_shown, crate::specs::Slots::padded))]
     pub fn new() -> Path
         ensures { result ≡ path_shown [] }
     {
@@ -28,10 +29,7 @@ impl Path {
     pub fn within(length: usize) -> usize
         ensures { result ≡ min length bundle_most }
     {
-        if length < BundlePlace::MOST {
-            return length;
-        }
-        BundlePlace::MOST
+        length.min(BundlePlace::MOST)
     }
 
     // The first so many places, or all where there are no more.
@@ -39,15 +37,11 @@ impl Path {
         ensures { result ≡ path_shown (take length numbers) }
     {
         let n = Path::within(length);
-        let mut places = [BundlePlace(0); BundlePlace::MOST];
-        let mut j = 0;
-        while j < n {
-            places[j] = BundlePlace(numbers[j]);
-            j += 1;
-        }
+        let mut numbers = numbers;
+        numbers[n..].fill(0);
         Path {
             length: n as u8,
-            places,
+            places: numbers.map(BundlePlace),
         }
     }
 }
