@@ -5,11 +5,7 @@ use mathlib.Core.List.{List}
 use mathlib.Core.Path.{◌≡◌, refl, sym, ap, ◌∙◌}
 use Prim.Native.Nat.{ℕ}
 use Rattle.std.specs.Prelude.{Option, Result, Ok, Err}
-<<<<<<< HEAD
-use Rattle.fields.specs.Answers.{number, handed, numbered}
-=======
 use Rattle.fields.specs.Answers.{number, numbered}
->>>>>>> 682e6f812c1024856d9fd4322b6b962d31b4d1a4
 use Rattle.fields.specs.Fields.{Parsed, got, stop}
 use Rattle.fields.specs.declared.fault.Fault.{Fault}
 use Rattle.card.specs.Card.{file_p}
@@ -65,21 +61,11 @@ module _ (s : List ℕ) (t : Option Time) where
       where
         by_file : (y : Parsed Card) → file_p s ≡ y → Put-of s t q
         by_file (got c end) k =
-<<<<<<< HEAD
-            let same : Ok q ≡ numbered x = rw o in
-            let asked : Ok q ≡ Ok (question_of s t c) = same ∙ is ∙ ap (posed s t) k in
-            let e : q ≡ question_of s t c = cc in
-            rw e (put_of c end k)
-        by_file (stop r) k =
-            let same : Ok q ≡ numbered x = rw o in
-            let stopped : Ok q ≡ Err r = same ∙ is ∙ ap (posed s t) k in
-=======
             let asked : Ok (question_of s t c) ≡ Ok q = sym (ap numbered (sym o) ∙ is ∙ ap (posed s t) k) in
             let same : question_of s t c ≡ q = cc in
             rw (← same) (put_of c end k)
         by_file (stop r) k =
             let stopped : Ok q ≡ Err r = ap numbered (sym o) ∙ is ∙ ap (posed s t) k in
->>>>>>> 682e6f812c1024856d9fd4322b6b962d31b4d1a4
             cc
 
     pub stop-says : (f : Fault) → x ≡ Err f → content_p s ≡ stop (number f)
@@ -87,20 +73,9 @@ module _ (s : List ℕ) (t : Option Time) where
       where
         by_file : (y : Parsed Card) → file_p s ≡ y → content_p s ≡ stop (number f)
         by_file (got c end) k =
-<<<<<<< HEAD
-            let same : Err (number f) ≡ numbered x = rw o in
-            let asked : Err (number f) ≡ Ok (question_of s t c) = same ∙ is ∙ ap (posed s t) k in
-            cc
-        by_file (stop r) k =
-            let same : Err (number f) ≡ numbered x = rw o in
-            let stopped : Err (number f) ≡ Err r = same ∙ is ∙ ap (posed s t) k in
-            let e : r ≡ number f = cc in
-            content_stops s r k ∙ ap stop e
-=======
             let asked : Err (number f) ≡ Ok (question_of s t c) = ap numbered (sym o) ∙ is ∙ ap (posed s t) k in
             cc
         by_file (stop r) k =
             let stopped : Err (number f) ≡ Err r = ap numbered (sym o) ∙ is ∙ ap (posed s t) k in
             let same : r ≡ number f = cc in
             content_stops s r k ∙ ap stop same
->>>>>>> 682e6f812c1024856d9fd4322b6b962d31b4d1a4
