@@ -2,7 +2,7 @@
 -- certificates (`fits_claim`); the code asks the key identifiers first (`after_yes`, `after_no`). A certificate's own two names give
 -- `self_names`. For the proofs of src/likely.rt, of `who_issued` and of `self_issued`; what is asked: specs/Records.antt.
 use Prim.Native.Nat.{ℕ}
-use mathlib.Core.Path.{◌≡◌, refl, sym, ap, ap₂, ◌∙◌}
+use mathlib.Core.Path.{◌≡◌, refl, sym, ap₂, ◌∙◌}
 use mathlib.Core.Bool.{Bool, true, false, ◌&&◌}
 use mathlib.Core.List.{List}
 use Rattle.std.specs.Bool.{then_some}
@@ -14,7 +14,6 @@ use Rattle.record.specs.Parts.{issuer_span, subject_span, certificate_by, certif
 use Rattle.record.specs.declared.Record.{Record}
 use Rattle.issuing.specs.Issued.{keys_fit}
 use Rattle.issuing.specs.Records.{claim_of, claimed, keys_fit_at, fits_at, likely_issued_at, self_issued_at}
-use Rattle.issuing.specs.declared.likely.Claim.{Claim}
 
 -- a part that a claim has by its flag is the certificate's
 pub claimed-present : (s : List ℕ) (b : Bool) (p : Span) → claimed s (then_some b p) ≡ present b (bytes_of p s)

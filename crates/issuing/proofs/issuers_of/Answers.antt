@@ -1,5 +1,5 @@
 -- `issuers_of` takes one row after another in.
-use Rattle.std.proofs.Common.{sym, ◌∙◌, arith}
+use Rattle.std.proofs.Common.{arith}
 use Rattle.issuing.proofs.Issuers.{issuers_all, issuers_next, issuers_done}
 use Rattle.issuing.proofs.issuers_of.Goals as goal
 

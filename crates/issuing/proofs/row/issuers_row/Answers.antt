@@ -1,5 +1,5 @@
 -- `issuers_row` asks each issuer once.
-use Rattle.std.proofs.Common.{arith, ◌∙◌}
+use Rattle.std.proofs.Common.{◌∙◌}
 use Rattle.issuing.proofs.Turns.{row-starts, row-joined, row_unlikely, row_unsigned, row-whole}
 use Rattle.issuing.proofs.row.issuers_row.Goals as goal
 use Rattle.issuing.proofs.row.issuers_row.Goals.{then-signed+then-fits, then-signed+else-fits, else-signed}
