@@ -27,7 +27,7 @@ label-take (b ∷ l) = go (label-take l) (eqb b 46) where
   go more false = rw more
 
 label_no_dot : (l : List ℕ) → has_byte 46 (label l) ≡ false
-unfolding label has_byte
+unfolding label
 label_no_dot [] = refl
 label_no_dot (b ∷ l) = go (label_no_dot l) (eqb b 46) refl where
   go : has_byte 46 (label l) ≡ false → (t : Bool) → eqb b 46 ≡ t → has_byte 46 (cond t [] (b ∷ label l)) ≡ false
@@ -35,7 +35,7 @@ label_no_dot (b ∷ l) = go (label_no_dot l) (eqb b 46) refl where
   go more false e = rw (e, more)
 
 label-append : (l r : List ℕ) → has_byte 46 l ≡ false → label (l ++ 46 ∷ r) ≡ l
-unfolding label has_byte
+unfolding label
 label-append [] r e = refl
 label-append (b ∷ l) r e = go (label-append l r) (eqb b 46) e where
   go : (has_byte 46 l ≡ false → label (l ++ 46 ∷ r) ≡ l) → (t : Bool) → (t || has_byte 46 l) ≡ false → cond t [] (b ∷ label (l ++ 46 ∷ r)) ≡ b ∷ l

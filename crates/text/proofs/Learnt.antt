@@ -9,17 +9,16 @@ use lib.ListN.{length, take, drop, length-append}
 use lib.Seq.{take-append_seam}
 use lib.Dec.{ltb}
 use borrow.Author.Tests.{le-ltb}
+use Rattle.std.specs.Prelude.{Option, Some, None}
 use Rattle.text.specs.Normal.{normal}
 use Rattle.text.specs.Normalize.{form_of, normalized, written}
-use Rattle.text.specs.declared.normal.Normalized.{Normalized}
-use Rattle.text.specs.declared.normal.Normalized.TheVariants.{Length, NoRoom}
 
 module _ (s out₀ out : List ℕ) (n : ℕ) where
   pub record Learnt : Type 0 where
     pub whole : take n out ≡ normal s
     pub within : n ≤ length out
 
-  learnt_by : (t : Bool) → form_of (Length n) ≡ cond t (record { number = 10; bytes = 0 }) (record { number = 0; bytes = length (normal s) })
+  learnt_by : (t : Bool) → form_of (Some n) ≡ cond t (record { number = 10; bytes = 0 }) (record { number = 0; bytes = length (normal s) })
       → out ≡ cond t out₀ (normal s ++ drop (length (normal s)) out₀)
       → Learnt
   learnt_by true e o = let z : ◌≡◌ {A = ℕ} 0 10 = ap (λ r. r.number) e in absurd (omega arith)
@@ -30,13 +29,13 @@ module _ (s out₀ out : List ℕ) (n : ℕ) where
         within = omega (arith, simp length-append at (ap length o));
       }
 
-  pub learnt : (r : Normalized) → form_of r ≡ normalized s out₀ → out ≡ written s out₀ → r ≡ Length n → Learnt
+  pub learnt : (r : Option ℕ) → form_of r ≡ normalized s out₀ → out ≡ written s out₀ → r ≡ Some n → Learnt
   unfolding normalized written
   learnt r p o e = learnt_by (ltb (length out₀) (length s)) (ap form_of (sym e) ∙ p) o
 
-pub roomy : (s out₀ : List ℕ) (r : Normalized) → form_of r ≡ normalized s out₀ → length s ≤ length out₀ → r ≡ NoRoom → ⊥
+pub roomy : (s out₀ : List ℕ) (r : Option ℕ) → form_of r ≡ normalized s out₀ → length s ≤ length out₀ → r ≡ None → ⊥
 unfolding normalized
 roomy s out₀ r p h e =
-    let q : form_of NoRoom ≡ record { number = 0; bytes = length (normal s) } = ap form_of (sym e) ∙ p ∙ rw (le-ltb (length out₀) (length s) h) in
+    let q : form_of None ≡ record { number = 0; bytes = length (normal s) } = ap form_of (sym e) ∙ p ∙ rw (le-ltb (length out₀) (length s) h) in
     let z : ◌≡◌ {A = ℕ} 10 0 = ap (λ r. r.number) q in
     omega arith

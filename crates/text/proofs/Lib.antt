@@ -1,4 +1,3 @@
-pub mod Lowered
 pub mod Lowering
 pub mod Same
 pub mod NormalFrom

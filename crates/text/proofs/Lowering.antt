@@ -1,37 +1,29 @@
--- A string whose bytes are lowered where that is asked: one that is compared as it stands (`low_none`), its cuts (`low_take`, `low_drop`),
--- what lowering does not move (`lowered_sign`, and so the dot of `low_dot` and the star of `low_star`). For Star.antt and src/wildcard.rt;
--- a byte lowered: specs/Bytes.antt, specs/Private.antt.
-use Prim.Native.Nat.{ℕ, zero, suc, ◌+◌, ◌<◌, ◌≤◌}
+-- A byte as std lowers it (`lowered_std`); a string whose bytes are lowered where that is asked (`low`), and what lowering does not
+-- move (`lowered_sign`, and so the dot of `low_dot` and the star of `low_star`). For Star.antt and src/wildcard.rt; a byte lowered:
+-- specs/Bytes.antt, specs/Private.antt.
+use Prim.Native.Nat.{ℕ, ◌+◌, ◌<◌, ◌≤◌}
 use mathlib.Core.Path.{◌≡◌, refl, sym, ◌∙◌}
 use mathlib.Core.Bool.{Bool, true, false, cond, ◌&&◌}
 use mathlib.Core.List.{List, [], ◌∷◌, map}
 use native.Mathlib.Omega.{arith}
 use lib.Dec.{eqb, leb}
-use lib.ListN.{take, drop, length-map}
+use lib.ListN.{take, length-map}
 use borrow.Author.Tests.{leb-true, ne_eqb}
+use Rattle.std.specs.Char.{to_ascii_lowercase}
+use Rattle.std.proofs.lemmas.Bool.Decides.{nat_tests}
 use Rattle.text.specs.Bytes.{lowered, same, starts_with}
 use Rattle.text.specs.Private.{lowered_if, has_byte}
 use Rattle.text.specs.Wildcard.{star_dot}
 use Rattle.text.proofs.Each.{both_true}
 
+-- what std lowers
+pub lowered_std : (b : ℕ) → to_ascii_lowercase b ≡ lowered b
+unfolding lowered
+lowered_std b = grind (arith, nat_tests)
+
 -- a string as it is compared
 abbrev pub low : Bool → List ℕ → List ℕ
 low lowering l = map (lowered_if lowering) l
-
-pub low_none : (l : List ℕ) → low false l ≡ l
-low_none [] = refl
-low_none (x ∷ l) = rw (low_none l)
-
-module _ (lowering : Bool) where
-  pub low_take : (n : ℕ) (l : List ℕ) → take n (low lowering l) ≡ low lowering (take n l)
-  low_take zero l = refl
-  low_take (suc n) [] = refl
-  low_take (suc n) (x ∷ l) = rw (low_take n l)
-
-  pub low_drop : (n : ℕ) (l : List ℕ) → drop n (low lowering l) ≡ low lowering (drop n l)
-  low_drop zero l = refl
-  low_drop (suc n) [] = refl
-  low_drop (suc n) (x ∷ l) = low_drop n l
 
 -- a sign below the letters is no byte's but its own
 pub lowered_sign : (sign b : ℕ) → sign < 65 → eqb (lowered b) sign ≡ eqb b sign
@@ -49,7 +41,6 @@ low_sign false sign b h = refl
 
 module _ (lowering : Bool) where
   pub low_dot : (l : List ℕ) → has_byte 46 (low lowering l) ≡ has_byte 46 l
-  unfolding has_byte
   low_dot [] = refl
   low_dot (x ∷ l) = rw (low_sign lowering 46 x (omega arith), low_dot l)
 

@@ -1,7 +1,7 @@
 -- The normal form as the loop of `normalize_string` writes it, byte by byte, with upstream's two flags: `normal_from`, and the law
 -- `normal_from_lem` that this is the normal form of specs/Normal.antt. The loop itself: Form.antt.
 use Prim.Native.Nat.{ℕ}
-use mathlib.Core.Path.{◌≡◌, refl, ◌∙◌}
+use mathlib.Core.Path.{◌≡◌, refl, sym, ◌∙◌}
 use mathlib.Core.Bool.{Bool, true, false, cond, ◌&&◌}
 use mathlib.Core.List.{List, [], ◌∷◌, ◌++◌, map, flat_map}
 use native.Mathlib.Omega.{arith}
@@ -62,6 +62,12 @@ from_left nw ws (b ∷ l) = rw (lowered_sign 32 b (omega arith)) (go (from_left 
       ≡ left nw ws (cond t ([] ∷ pieces (map lowered l)) (onto (lowered b) (pieces (map lowered l))))
   go space byte true = space ∙ left_space nw ws (pieces (map lowered l))
   go space byte false = rw byte (left_byte nw ws (lowered b) (pieces (map lowered l)))
+
+-- a space is owed to a byte that was seen, and so only then
+pub gap_seen : (nw : Bool) (l : List ℕ) → normal_from nw true l ≡ normal_from nw nw l
+unfolding left
+gap_seen true l = refl
+gap_seen false l = from_left false true l ∙ sym (from_left false false l)
 
 pub normal_from_lem : (s : List ℕ) → normal_from false false s ≡ normal s
 unfolding normal left spaced

@@ -2,20 +2,33 @@
 -- each test of `match_lowering`, of strings that are lowered where that is asked. Definitions: specs/Wildcard.antt; a name under a domain:
 -- Label.antt; strings lowered: Lowering.antt.
 use Prim.Native.Nat.{ℕ, suc, ◌-◌, ◌<◌, ◌≤◌}
-use mathlib.Core.Path.{◌≡◌, sym, ap, ◌∙◌}
+use mathlib.Core.Path.{◌≡◌, refl, sym, ap, ◌∙◌}
 use mathlib.Core.Bool.{Bool, true, false, not, ◌&&◌, and-false}
-use mathlib.Core.List.{List, ◌∷◌, ◌++◌}
+use mathlib.Core.List.{List, [], ◌∷◌, ◌++◌}
 use native.Mathlib.Omega.{arith}
 use lib.ListN.{length, take, drop, length-map, length-drop, take-append-drop}
-use lib.Dec.{leb, ltb}
+use lib.Dec.{leb, ltb, eqb}
 use borrow.Author.Tests.{lt-ltb, le-ltb, le-leb}
+use Rattle.std.specs.List as list
+use Rattle.std.proofs.lemmas.Bool.Decides.{nat_tests}
+use Rattle.std.proofs.lemmas.List.{take-map, drop-map}
 use Rattle.text.specs.Bytes.{same, starts_with}
-use Rattle.text.specs.Private.{has_byte}
+use Rattle.text.specs.Private.{lowered_if, has_byte}
 use Rattle.text.specs.Wildcard.{star_dot, under_domain, match_name}
 use Rattle.text.proofs.Each.{both_true}
 use Rattle.text.proofs.Same.{same_sound}
 use Rattle.text.proofs.Label.{under_domain_lem}
-use Rattle.text.proofs.Lowering.{low, low_take, low_drop, low_dot, low_star}
+use Rattle.text.proofs.Lowering.{low, low_dot, low_star}
+
+-- what std answers of a pattern and "*."
+starts_std : (pattern : List ℕ) → list.starts_with eqb pattern star_dot ≡ starts_with pattern star_dot
+unfolding starts_with same
+starts_std [] = refl
+starts_std (x ∷ []) = and-false (eqb 42 x)
+starts_std (x ∷ y ∷ l) = grind (arith, nat_tests)
+
+pub asked_star : (pattern : List ℕ) {r t : Bool} → r ≡ list.starts_with eqb pattern star_dot → r ≡ t → starts_with pattern star_dot ≡ t
+asked_star pattern e f = sym (starts_std pattern) ∙ sym e ∙ f
 
 -- after "*." stands the domain, and after the star a dot and the domain
 star_dot_lem : (pattern : List ℕ) → starts_with pattern star_dot ≡ true → drop 1 pattern ≡ 46 ∷ drop 2 pattern
@@ -50,34 +63,32 @@ module _ (t : Bool) (pattern name : List ℕ) where
   unfolding match_name
   plain e = rw (low_star t pattern, e)
 
-  module _ (star : starts_with pattern star_dot ≡ true) where
-    pub bare : length pattern ≤ 2 → match_name (low t pattern) (low t name) ≡ false
-    unfolding match_name
-    bare h = rw (low_star t pattern, star, length-map, le-ltb _ _ h)
+  module _ (star : starts_with pattern star_dot ≡ true) (suffix : List ℕ) (is : suffix ≡ drop 1 pattern) where
+    long : length suffix ≡ length pattern - 1
+    long = ap length is ∙ length-drop 1 pattern
 
-    module _ (more : 2 < length pattern) where
+    pub bare : length suffix ≤ 1 → match_name (low t pattern) (low t name) ≡ false
+    unfolding match_name
+    bare h = rw (low_star t pattern, star, length-map, le-ltb 2 (length pattern) (omega (arith, long)))
+
+    module _ (more : 1 < length suffix) where
       under : match_name (low t pattern) (low t name) ≡ under_domain (drop 2 (low t pattern)) (low t name)
       unfolding match_name
-      under = rw (low_star t pattern, star, length-map, lt-ltb _ _ more)
+      under = rw (low_star t pattern, star, length-map, lt-ltb 2 (length pattern) (omega (arith, long)))
 
       -- the tests of `match_lowering` where the star stands for a label
       tests : match_name (low t pattern) (low t name)
-          ≡ ltb (length pattern - 1) (length name)
-          && same (low t (drop (length name - (length pattern - 1)) name)) (low t (drop 1 pattern))
-          && not (has_byte 46 (take (length name - (length pattern - 1)) name))
+          ≡ ltb (length suffix) (length name)
+          && same (low t (drop (length name - length suffix) name)) (low t suffix)
+          && not (has_byte 46 (take (length name - length suffix) name))
       tests =
           let p : length (low t pattern) ≡ length pattern = simp length-map in
           let n : length (low t name) ≡ length name = simp length-map in
-          under ∙ star_upstream (low t pattern) (low t name) (low_star t pattern ∙ star) ∙ rw (p, n, low_drop t _ name, low_drop t 1 pattern, low_take, low_dot)
+          under ∙ star_upstream (low t pattern) (low t name) (low_star t pattern ∙ star) ∙ rw (p, n, ← long, drop-map (lowered_if t) _ name, drop-map (lowered_if t) 1 pattern, ← is, take-map, low_dot)
 
-      pub short : length name ≤ length pattern - 1 → match_name (low t pattern) (low t name) ≡ false
+      pub short : length name ≤ length suffix → match_name (low t pattern) (low t name) ≡ false
       short h = tests ∙ rw (le-ltb _ _ h)
 
-      module _ (long : length pattern - 1 < length name) where
-        pub elsewhere : same (low t (drop (length name - (length pattern - 1)) name)) (low t (drop 1 pattern)) ≡ false
-            → match_name (low t pattern) (low t name) ≡ false
-        elsewhere e = tests ∙ rw (lt-ltb _ _ long, e)
-
-        pub labelled : same (low t (drop (length name - (length pattern - 1)) name)) (low t (drop 1 pattern)) ≡ true
-            → match_name (low t pattern) (low t name) ≡ not (has_byte 46 (take (length name - (length pattern - 1)) name))
-        labelled e = tests ∙ rw (lt-ltb _ _ long, e)
+      pub labelled : length suffix < length name → match_name (low t pattern) (low t name)
+          ≡ same (low t (drop (length name - length suffix) name)) (low t suffix) && not (has_byte 46 (take (length name - length suffix) name))
+      labelled h = tests ∙ rw (lt-ltb _ _ h)

@@ -1,9 +1,7 @@
 -- What `normalize_string` answers and what it leaves in the lent room. The normal form itself: Normal.antt; that no two answers say the
 -- same: proofs/Pinned.antt.
-use Rattle.std.specs.Prelude.{ℕ, cond, List, ◌++◌, length, drop, ltb}
+use Rattle.std.specs.Prelude.{ℕ, cond, List, ◌++◌, length, drop, ltb, Option, Some, None}
 use Rattle.text.specs.Normal.{normal}
-use Rattle.text.specs.declared.normal.Normalized.{Normalized}
-use Rattle.text.specs.declared.normal.Normalized.TheVariants.{Length, NoRoom}
 
 -- the reply's number, and how many bytes were written
 pub record Formed : Type 0 where
@@ -11,9 +9,9 @@ pub record Formed : Type 0 where
   pub bytes : ℕ
 
 -- the number and the bytes of each case of the answer
-abbrev pub form_of : Normalized → Formed
-form_of (Length n) = record { number = 0; bytes = n }
-form_of NoRoom = record { number = 10; bytes = 0 }
+abbrev pub form_of : Option ℕ → Formed
+form_of (Some n) = record { number = 0; bytes = n }
+form_of None = record { number = 10; bytes = 0 }
 
 -- no room exactly where the room is shorter than the string
 unfoldable pub normalized : List ℕ → List ℕ → Formed

@@ -7,5 +7,5 @@ mod normal;
 mod wildcard;
 
 pub use bytes::{equal, lower};
-pub use normal::{Normalized, normalize_string};
+pub use normal::normalize_string;
 pub use wildcard::{match_lowered, match_name};

@@ -4,45 +4,30 @@ ghost use Rattle.text.specs.Normalize.{form_of, normalized, written};
 
 use crate::lower;
 
-// The normal form's length, or that the lent room is shorter than the string.
-#[derive(Clone, Copy)]
-pub enum Normalized {
-    Length(usize),
-    NoRoom,
-}
-
-// Writes the normal form of s to the start of out: A to Z lowered, spaces at both ends gone, a run of spaces
+// Writes the normal form of s to the start of out, and answers its length: A to Z lowered, spaces at both ends gone, a run of spaces
 // inside become one. Without room for s itself nothing is written.
 #[tactic(auto, unfolding(crate::specs::Normalize::normalized, crate::specs::Normalize::written))]
-pub fn normalize_string(s: &[u8], out: &mut [u8]) -> Normalized
+pub fn normalize_string(s: &[u8], out: &mut [u8]) -> Option<usize>
     ensures answer { form_of result ≡ normalized s.now out.old }
     ensures room { out.new ≡ written s.now out.old }
 {
     if out.len() < s.len() {
-        return Normalized::NoRoom;
+        return None;
     }
-    let mut i: usize = 0;
-    let mut n: usize = 0;
-    let mut seen_nw = false;
-    let mut seen_ws = false;
-    while i < s.len() {
-        let b = s[i];
+    let mut n = 0;
+    let mut gap = false;
+    for &b in s {
         if b == b' ' {
-            seen_ws = true;
-            i += 1;
-        } else if seen_nw && seen_ws {
-            out[n] = b' ';
-            out[n + 1] = lower(b);
-            n += 2;
-            seen_ws = false;
-            i += 1;
+            gap = 0 < n;
         } else {
+            if gap {
+                out[n] = b' ';
+                n += 1;
+            }
             out[n] = lower(b);
             n += 1;
-            seen_nw = true;
-            seen_ws = false;
-            i += 1;
+            gap = false;
         }
     }
-    Normalized::Length(n)
+    Some(n)
 }

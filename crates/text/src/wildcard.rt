@@ -4,7 +4,7 @@ ghost use Rattle.text.specs.Bytes.{lowered};
 ghost use Rattle.text.specs.Private.{lowered_if};
 ghost use Rattle.text.specs.Wildcard.{match_name};
 
-use crate::bytes::{equal_lowering, has_byte, starts_with};
+use crate::bytes::equal_lowering;
 
 // Whether a name fits a pattern, byte for byte. A star before a domain stands for one label of at least one byte.
 pub fn match_name(pattern: &[u8], name: &[u8]) -> bool
@@ -24,20 +24,13 @@ pub fn match_lowered(pattern: &[u8], name: &[u8]) -> bool
 fn match_lowering(pattern: &[u8], name: &[u8], lowering: bool) -> bool
     ensures { result ≡ match_name (map (lowered_if lowering) pattern.now) (map (lowered_if lowering) name.now) }
 {
-    if !starts_with(pattern, b"*.") {
+    if !pattern.starts_with(b"*.") {
         return equal_lowering(pattern, name, lowering);
     }
-    if pattern.len() <= 2 {
+    let suffix = &pattern[1..];
+    if suffix.len() <= 1 || name.len() <= suffix.len() {
         return false;
     }
-    let suffix = pattern.len() - 1;
-    if name.len() <= suffix {
-        return false;
-    }
-    let label = name.len() - suffix;
-    if equal_lowering(&name[label..], &pattern[1..], lowering) {
-        !has_byte(&name[..label], b'.')
-    } else {
-        false
-    }
+    let (label, rest) = name.split_at(name.len() - suffix.len());
+    equal_lowering(rest, suffix, lowering) && !label.contains(&b'.')
 }

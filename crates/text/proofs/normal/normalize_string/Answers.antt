@@ -1,30 +1,25 @@
--- `normalize_string` meets its contract. The loop's invariant is `State`, what is written so far and what is left to write;
--- the measure is what is left of the string.
-use mathlib.Core.Logic.{⊎_elim}
+-- `normalize_string` meets its contract: a law of `Form` for each arm of the loop and each return.
 use native.Mathlib.Omega.{arith}
-use Rattle.text.proofs.Form.{start, refused, space, one, two, gap_room, done}
+use Rattle.text.proofs.Form.{start, space, one, two, done}
+use Rattle.text.proofs.normal.normalize_string.Goals.{then-b-eq32, else-b-eq32, then-gap, else-gap}
 use Rattle.text.proofs.normal.normalize_string.Goals as goal
 
-pub loop-i-init : goal.loop-i-init
-loop-i-init c = start _ _ (omega arith)
+pub loop-b-init : goal.loop-b-init
+loop-b-init c = start _ _ (omega arith)
 
-pub loop-i-preserved-then-b-eq32 : goal.loop-i-preserved-then-b-eq32
-loop-i-preserved-then-b-eq32 c = space _ _ _ _ _ _ _ c.loop-i.invariant (omega arith) c.if-b-eq32.true
+pub loop-b-preserved : goal.loop-b-preserved
+loop-b-preserved c =
+    let h = c.loop-b.invariant in
+    elim c.if-b-eq32.branch [
+      | then-b-eq32 w ↦ rw (w.out-is, w.n-is, w.gap-is) (space _ _ _ _ _ _ h (omega arith) w.if-b-eq32.true)
+      | else-b-eq32 w ↦ rw (w.out-is, w.n-is, w.gap-is) (elim w.if-gap.branch [
+        | then-gap v ↦ rw (v.out-is, v.n-is) (two _ _ _ _ _ _ h (omega arith) v.if-gap.true _ w.if-b-eq32.false w.lower.ensures)
+        | else-gap v ↦ rw (v.out-is, v.n-is) (one _ _ _ _ _ _ h (omega arith) _ w.if-b-eq32.false v.if-gap.false w.lower.ensures)
+      ])
+    ]
 
-pub bounds-out-n-then-seen_ws : goal.bounds-out-n-then-seen_ws
-bounds-out-n-then-seen_ws c = gap_room _ _ _ _ _ _ _ c.loop-i.invariant (omega arith) c.if-seen_ws.true
+pub returns-clause-answer : goal.returns-clause-answer
+returns-clause-answer c = (done _ _ _ _ _ _ c.loop-b.invariant (omega arith)).0
 
-pub loop-i-preserved-then-seen_ws : goal.loop-i-preserved-then-seen_ws
-loop-i-preserved-then-seen_ws c =
-    two _ _ _ _ _ _ _ c.loop-i.invariant (omega arith) _ c.if-seen_nw.true c.if-seen_ws.true c.if-b-eq32.false c.lower.ensures
-
-pub loop-i-preserved : goal.loop-i-preserved
-loop-i-preserved c =
-    one _ _ _ _ _ _ _ c.loop-i.invariant (omega arith) _ c.if-b-eq32.false (⊎_elim (λ w. rw (w.0, w.1)) (λ w. rw w) c.else-seen_nw.either) c.lower-else-seen_nw.ensures
-
-pub returns : goal.returns
-returns c =
-    let h =
-    done _ _ _ _ _ _ _ c.loop-i.invariant c.loop-i-test.false
-    in
-    record { answer = h.0; room = h.1 }
+pub returns-clause-room : goal.returns-clause-room
+returns-clause-room c = (done _ _ _ _ _ _ c.loop-b.invariant (omega arith)).1
