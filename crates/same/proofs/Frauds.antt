@@ -4,6 +4,7 @@ use mathlib.Core.Path.{◌≡◌, refl}
 use mathlib.Core.Bool.{Bool, true, false}
 use mathlib.Core.List.{[], ◌∷◌, flat_map}
 use native.Mathlib.Omega.{arith}
+use Rattle.std.specs.Prelude.{Ok, Err}
 use Rattle.text.specs.Bytes.{lowered, same}
 use Rattle.text.specs.Normal.{onto, pieces, words_of, normal}
 use Rattle.fields.specs.Fields.{count_p, bytes_p, string_p, many, counted_p, whole}
@@ -11,17 +12,16 @@ use Rattle.fields.specs.declared.fault.Fault.TheVariants.{CutShort}
 use Rattle.names.specs.Names.{attr_p, rdn_p, name_p}
 use Rattle.same.specs.Same.{same_attr, same_rdn, same_dn}
 use Rattle.same.specs.Answers.{said, asked}
-use Rattle.same.specs.declared.related.Related.TheVariants.{No, Stop}
 
 -- attributes compared place by place: 02 01 61 00 01 62 00, which is (a, b), and (b, a) answered as no
 pub place_by_place : (normalise : Bool)
-    → said No ≡ asked (same_rdn normalise) (whole rdn_p (2 ∷ 1 ∷ 97 ∷ 0 ∷ 1 ∷ 98 ∷ 0 ∷ [])) (whole rdn_p (2 ∷ 1 ∷ 98 ∷ 0 ∷ 1 ∷ 97 ∷ 0 ∷ [])) → ⊥
+    → said (Ok false) ≡ asked (same_rdn normalise) (whole rdn_p (2 ∷ 1 ∷ 97 ∷ 0 ∷ 1 ∷ 98 ∷ 0 ∷ [])) (whole rdn_p (2 ∷ 1 ∷ 98 ∷ 0 ∷ 1 ∷ 97 ∷ 0 ∷ [])) → ⊥
 unfolding rdn_p attr_p string_p bytes_p counted_p count_p many whole same_rdn same_attr same normal words_of pieces flat_map
 place_by_place true e = omega arith
 place_by_place false e = omega arith
 
 -- bytes left over in the first argument, judged after the second: 00 3F and an empty second argument answered as cut short
-pub left_over_judged_last : (normalise : Bool) → said (Stop CutShort) ≡ asked (same_dn normalise) (whole name_p (0 ∷ 63 ∷ [])) (whole name_p []) → ⊥
+pub left_over_judged_last : (normalise : Bool) → said (Err CutShort) ≡ asked (same_dn normalise) (whole name_p (0 ∷ 63 ∷ [])) (whole name_p []) → ⊥
 unfolding name_p counted_p count_p many whole
 left_over_judged_last normalise e = omega arith
 

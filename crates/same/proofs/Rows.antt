@@ -6,17 +6,15 @@ use mathlib.Core.Bool.{Bool}
 use mathlib.Core.List.{List}
 use native.Mathlib.Omega.{arith}
 use lib.ListN.{length}
+use Rattle.std.specs.Prelude.{Result, Ok, Option}
 use Rattle.fields.specs.Fields.{Parsed, got, stop, count_p, many, counted_p}
-use Rattle.fields.specs.Answers.{passing}
+use Rattle.fields.specs.Answers.{passing, begun}
+use Rattle.fields.specs.declared.fault.Fault.{Fault}
+use Rattle.fields.specs.declared.run.Run.{Run}
 use Rattle.fields.proofs.Many.{many-length}
 use Rattle.names.specs.Names.{attr_p, rdn_p, rdn_most}
-use Rattle.names.specs.Answers.{rdn_begun}
-use Rattle.names.specs.declared.read.Rdn.{Rdn}
-use Rattle.names.specs.declared.read.RdnAt.{RdnAt}
-use Rattle.names.specs.declared.read.RdnAt.TheVariants as rdn
 use Rattle.same.specs.Rows.{Fine, standing}
 use Rattle.same.specs.Walks.{walk}
-use Rattle.same.specs.declared.walk.Walk.{Walk}
 use Rattle.same.proofs.Standing.{standing-whole}
 
 -- ---- what the place past a thing tells of the thing
@@ -55,10 +53,10 @@ module _ {A : Type 0} (least most : ℕ) (p : List ℕ → ℕ → Parsed A) (s 
 
 -- ---- an RDN that was begun and can be read
 
-pub rdn_row : (s : List ℕ) (at : ℕ) (r : RdnAt) (a : Rdn) (e : ℕ) → rdn_begun r ≡ count_p 1 rdn_most s at → r ≡ rdn.Got a
+pub rdn_row : (s : List ℕ) (at : ℕ) (r : Result Run Fault) (a : Run) (e : ℕ) → begun r ≡ count_p 1 rdn_most s at → r ≡ Ok a
     → passing (rdn_p s at) ≡ got tt e → Row 1 rdn_most attr_p s at a.count a.first
 unfolding rdn_p
-rdn_row s at r a e h k u = row_read 1 rdn_most attr_p s at _ _ (sym h ∙ ap rdn_begun k) (passing_fine (rdn_p s at) e u)
+rdn_row s at r a e h k u = row_read 1 rdn_most attr_p s at _ _ (sym h ∙ ap begun k) (passing_fine (rdn_p s at) e u)
 
 -- ---- two rows
 
@@ -69,7 +67,7 @@ from_count least most p s at n f h = rw h
 
 -- the first walked from the place past its count on, beside what stands in the second
 pub standing_walked : {A : Type 0} {least most : ℕ} {p : List ℕ → ℕ → Parsed A} {t : List ℕ} {bt m g : ℕ} → Row least most p t bt m g
-    → (q : List A → List A → Bool) (r : Walk) (s : List ℕ) (at n f i : ℕ) → count_p least most s at ≡ got n f
+    → (q : List A → List A → Bool) (r : Option (ℕ × ℕ)) (s : List ℕ) (at n f i : ℕ) → count_p least most s at ≡ got n f
     → passing (counted_p least most p t bt) ≡ got tt i → r ≡ walk q (many p n s f) (got (standing p m t g) i)
     → r ≡ walk q (counted_p least most p s at) (counted_p least most p t bt)
 standing_walked {least} {most} {p} y q r s at n f i c v w =

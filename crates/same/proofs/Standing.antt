@@ -1,25 +1,25 @@
--- Things in a row up to the first that can't be read: a loop that counts down (`standing-none`, `standing-some`), and a row that was read
--- through (`standing-whole`). For Members.antt and Rows.antt; `standing` is in specs/Rows.antt.
-use Prim.Native.Nat.{ℕ, zero, suc, ◌-◌, ◌<◌, ◌≤◌}
+-- Things in a row up to the first that can't be read: what is asked of them one by one (`any_standing`), and a row that was read through
+-- (`standing-whole`). For `has_name` and Rows.antt; `standing` is in specs/Rows.antt.
+use Prim.Native.Nat.{ℕ, zero, suc, ◌-◌}
 use mathlib.Core.Path.{◌≡◌, refl, sym}
+use mathlib.Core.Bool.{Bool}
 use mathlib.Core.List.{List, []}
 use native.Mathlib.Omega.{arith}
-use Rattle.fields.specs.Fields.{Parsed, got, many}
+use Rattle.text.specs.Each.{any}
+use Rattle.fields.specs.Fields.{Parsed, got, stop, many}
+use Rattle.fields.specs.Runs.{passes, any_of}
 use Rattle.fields.proofs.Many.{many_split}
 use Rattle.same.specs.Rows.{with_rest, standing}
 
 module _ {A : Type 0} (p : List ℕ → ℕ → Parsed A) (s : List ℕ) where
-  pub standing-none : (n at : ℕ) → n ≤ 0 → standing p n s at ≡ []
-  unfolding standing
-  standing-none zero at h = refl
-  standing-none (suc n) at h = absurd (omega arith)
-
-  pub standing-some : (n at : ℕ) → 0 < n → standing p n s at ≡ with_rest (p s at) (λ e. standing p (n - 1) s e)
-  unfolding standing
-  standing-some zero at h = absurd (omega arith)
-  standing-some (suc n) at h =
-      let k : suc n - 1 ≡ n = omega arith in
-      rw k
+  pub any_standing : (test : A → Bool) (n at : ℕ) → any_of test p n s at ≡ any test (standing p n s at)
+  unfolding any_of passes standing
+  any_standing test zero at = refl
+  any_standing test (suc n) at = go (p s at) where
+    go : (x : Parsed A) → passes test x (λ e. any_of test p n s e) ≡ any test (with_rest x (λ e. standing p n s e))
+    unfolding passes
+    go (got a e) = rw (any_standing test n e)
+    go (stop r) = refl
 
   pub standing-whole : (n at : ℕ) (l : List A) (e : ℕ) → many p n s at ≡ got l e → standing p n s at ≡ l
   unfolding standing many

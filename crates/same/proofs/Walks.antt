@@ -9,35 +9,30 @@ use native.Mathlib.Omega.{arith}
 use lib.ListN.{length}
 use lib.Dec.{eqb}
 use borrow.Author.Tests.{eq-eqb}
+use Rattle.std.specs.Prelude.{Option, Some, None, is_some}
 use Rattle.fields.specs.Fields.{Parsed, got, stop, after, count_p, many, counted_p}
 use Rattle.fields.proofs.Many.{many-length}
 use Rattle.same.specs.Same.{places}
 use Rattle.same.specs.Answers.{both_read}
 use Rattle.same.specs.Walks.{walk}
-use Rattle.same.specs.declared.walk.Walk.{Walk}
-use Rattle.same.specs.declared.walk.Walk.TheVariants.{On, Differ}
 
 -- the next two things are walked where the last two end
-abbrev pub on : Walk → (ℕ → ℕ → Walk) → Walk
-on (On e f) g = g e f
-on Differ g = Differ
+abbrev pub on : Option (ℕ × ℕ) → (ℕ → ℕ → Option (ℕ × ℕ)) → Option (ℕ × ℕ)
+on (Some (e, f)) g = g e f
+on None g = None
 
 -- what can't be read on the right differs from everything
-pub stop-right : {A : Type 0} (q : A → A → Bool) (x : Parsed A) (r : ℕ) → walk q x (stop r) ≡ Differ
+pub stop-right : {A : Type 0} (q : A → A → Bool) (x : Parsed A) (r : ℕ) → walk q x (stop r) ≡ None
 stop-right q (got x e) r = refl
 stop-right q (stop o) r = refl
 
 -- ---- a walk as a yes or no
 
-abbrev pub through : Walk → Bool
-through (On e f) = true
-through Differ = false
-
-through_test : (t : Bool) (e f : ℕ) → through (cond t (On e f) Differ) ≡ t
+through_test : (t : Bool) (e f : ℕ) → is_some (cond t (Some (e, f)) None) ≡ t
 through_test true e f = refl
 through_test false e f = refl
 
-pub walk_both : {A : Type 0} (q : A → A → Bool) (x y : Parsed A) → through (walk q x y) ≡ both_read q x y
+pub walk_both : {A : Type 0} (q : A → A → Bool) (x y : Parsed A) → is_some (walk q x y) ≡ both_read q x y
 walk_both q (got x e) (got y f) = through_test (q x y) e f
 walk_both q (got x e) (stop r) = refl
 walk_both q (stop r) y = refl
@@ -45,9 +40,9 @@ walk_both q (stop r) y = refl
 -- ---- rows of n things
 
 module _ {A : Type 0} (q : A → A → Bool) where
-  first_and_rest : (t : Bool) (x y : A) → q x y ≡ t → (l m : Parsed (List A)) (e f : ℕ) (g : ℕ → ℕ → Walk)
+  first_and_rest : (t : Bool) (x y : A) → q x y ≡ t → (l m : Parsed (List A)) (e f : ℕ) (g : ℕ → ℕ → Option (ℕ × ℕ))
       → g e f ≡ walk (places q) l m
-      → walk (places q) (after l (λ k i. got (x ∷ k) i)) (after m (λ k i. got (y ∷ k) i)) ≡ on (cond t (On e f) Differ) g
+      → walk (places q) (after l (λ k i. got (x ∷ k) i)) (after m (λ k i. got (y ∷ k) i)) ≡ on (cond t (Some (e, f)) None) g
   unfolding places
   first_and_rest true x y h (got l i) (got m j) e f g r = rw (h, r)
   first_and_rest false x y h (got l i) (got m j) e f g r = rw h
@@ -66,7 +61,7 @@ module _ {A : Type 0} (q : A → A → Bool) where
     step n (got x e) (stop r) = stop-right (places q) (after (many p n s e) (λ l f. got (x ∷ l) f)) r
     step n (stop r) b = refl
 
-    pub walk_none : (n at bt : ℕ) → n ≤ 0 → walk (places q) (many p n s at) (many p n t bt) ≡ On at bt
+    pub walk_none : (n at bt : ℕ) → n ≤ 0 → walk (places q) (many p n s at) (many p n t bt) ≡ Some (at, bt)
     unfolding many places
     walk_none zero at bt h = refl
     walk_none (suc n) at bt h = absurd (omega arith)
@@ -80,12 +75,12 @@ module _ {A : Type 0} (q : A → A → Bool) where
         let k : suc n - 1 ≡ n = omega arith in
         rw k (step n (p s at) (p t bt))
 
-    pub walk_on : (n at bt e f : ℕ) → 0 < n → walk q (p s at) (p t bt) ≡ On e f
+    pub walk_on : (n at bt e f : ℕ) → 0 < n → walk q (p s at) (p t bt) ≡ Some (e, f)
         → walk (places q) (many p n s at) (many p n t bt) ≡ walk (places q) (many p (n - 1) s e) (many p (n - 1) t f)
     walk_on n at bt e f h w = walk-some n at bt h ∙ rw w
 
-    pub walk_differs : (n at bt : ℕ) → 0 < n → walk q (p s at) (p t bt) ≡ Differ
-        → walk (places q) (many p n s at) (many p n t bt) ≡ Differ
+    pub walk_differs : (n at bt : ℕ) → 0 < n → walk q (p s at) (p t bt) ≡ None
+        → walk (places q) (many p n s at) (many p n t bt) ≡ None
     walk_differs n at bt h w = walk-some n at bt h ∙ rw w
 
 -- ---- rows whose lengths are tested
@@ -97,7 +92,7 @@ tested test q a b = test (length a) (length b) && q a b
 module _ {A : Type 0} (test : ℕ → ℕ → Bool) (q : List A → List A → Bool) (p : List ℕ → ℕ → Parsed A) (s t : List ℕ) where
   -- rows that were read with the counts n and m, and what the test of their lengths comes to
   by_length : (n m at bt : ℕ) (u : Bool) → test n m ≡ u → (x y : Parsed (List A)) → many p n s at ≡ x → many p m t bt ≡ y
-      → walk (tested test q) x y ≡ cond u (walk q x y) Differ
+      → walk (tested test q) x y ≡ cond u (walk q x y) None
   by_length n m at bt true h (got a e) (got b f) i j = rw (many-length p s n at a e i, many-length p t m bt b f j, h)
   by_length n m at bt false h (got a e) (got b f) i j = rw (many-length p s n at a e i, many-length p t m bt b f j, h)
   by_length n m at bt true h (got a e) (stop r) i j = refl
@@ -114,7 +109,7 @@ module _ {A : Type 0} (test : ℕ → ℕ → Bool) (q : List A → List A → B
     unfolding counted_p
     counted_passes i = rw (h, k) (by_length n m e f true i _ _ refl refl)
 
-    pub counted_fails : test n m ≡ false → walk (tested test q) (counted_p least most p s at) (counted_p least most p t bt) ≡ Differ
+    pub counted_fails : test n m ≡ false → walk (tested test q) (counted_p least most p s at) (counted_p least most p t bt) ≡ None
     unfolding counted_p
     counted_fails i = rw (h, k) (by_length n m e f false i _ _ refl refl)
 
@@ -129,10 +124,10 @@ counted_same q p s t least most at bt n m e f h k i =
 -- ---- a count that can't be read, whatever relates the rows
 
 module _ {A : Type 0} (q : List A → List A → Bool) (p : List ℕ → ℕ → Parsed A) (s t : List ℕ) (least most at bt r : ℕ) where
-  pub no_count_left : count_p least most s at ≡ stop r → walk q (counted_p least most p s at) (counted_p least most p t bt) ≡ Differ
+  pub no_count_left : count_p least most s at ≡ stop r → walk q (counted_p least most p s at) (counted_p least most p t bt) ≡ None
   unfolding counted_p
   no_count_left h = rw h
 
-  pub no_count_right : count_p least most t bt ≡ stop r → walk q (counted_p least most p s at) (counted_p least most p t bt) ≡ Differ
+  pub no_count_right : count_p least most t bt ≡ stop r → walk q (counted_p least most p s at) (counted_p least most p t bt) ≡ None
   unfolding counted_p
   no_count_right h = rw h (stop-right q (counted_p least most p s at) r)

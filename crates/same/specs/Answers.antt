@@ -1,6 +1,6 @@
 -- What each answer stands for, and what a relation of two encoded arguments answers; then two names by where they stand. The relations
 -- themselves: Same.antt, Matching.antt, subtree/specs/Subtree.antt; that no two answers say the same: proofs/Pinned.antt.
-use Rattle.std.specs.Prelude.{ℕ, Bool, false, cond, ◌||◌, List}
+use Rattle.std.specs.Prelude.{ℕ, Bool, false, cond, ◌||◌, List, Result, Ok, Err}
 use Rattle.fields.specs.Fields.{Parsed, got, stop}
 use Rattle.fields.specs.Spans.{bytes_of}
 use Rattle.fields.specs.declared.string.Span.{Span}
@@ -8,16 +8,12 @@ use Rattle.text.specs.Bytes.{same}
 use Rattle.names.specs.Names.{name_p}
 use Rattle.same.specs.Same.{same_dn}
 use Rattle.fields.specs.Answers.{number}
-use Rattle.same.specs.declared.walk.Walk.{Walk}
-use Rattle.same.specs.declared.walk.Walk.TheVariants.{On, Differ}
-use Rattle.same.specs.declared.related.Related.{Related}
-use Rattle.same.specs.declared.related.Related.TheVariants.{No, Yes, Stop}
+use Rattle.fields.specs.declared.fault.Fault.{Fault}
 
 -- yes is 1, no is 0, else the number of the fault
-abbrev pub said : Related → ℕ
-said No = 0
-said Yes = 1
-said (Stop f) = number f
+abbrev pub said : Result Bool Fault → ℕ
+said (Ok b) = cond b 1 0
+said (Err f) = number f
 
 -- the first argument is judged through before the second is looked at, then they are related
 abbrev pub asked : {A B : Type 0} → (A → B → Bool) → Parsed A → Parsed B → ℕ
@@ -35,8 +31,3 @@ both_read q (got x e) (got y f) = q x y
 unfoldable pub same_names : Bool → Span → Span → List ℕ → Bool
 same_names normalise a b s =
     same (bytes_of a s) (bytes_of b s) || both_read (same_dn normalise) (name_p s a.start) (name_p s b.start)
-
--- a walk that came through is a yes
-abbrev pub came : Walk → ℕ
-came (On e f) = 1
-came Differ = 0

@@ -4,83 +4,61 @@ ghost use Rattle.std.specs.Prelude.{◌≡◌};
 ghost use Rattle.fields.specs.Fields.{whole};
 ghost use Rattle.names.specs.Names.{attr_p, rdn_p, name_p};
 ghost use Rattle.same.specs.Same.{same_attr, same_rdn, same_dn};
-ghost use Rattle.same.specs.Answers.{said, asked, came};
+ghost use Rattle.same.specs.Answers.{said, asked};
 
-use crate::walk::{Walk, attr_walk, dn_walk, rdn_walk};
-use fields::{Fault, Past};
-use names::{whole_attribute, whole_name, whole_rdn};
+use crate::Pair;
+use fields::{Fault, whole};
+use names::{Attribute, Name, Rdn};
 
-// Whether two arguments are related, or why one of them can't be read.
-#[derive(Clone, Copy)]
-pub enum Related {
-    No,
-    Yes,
-    Stop(Fault),
-}
-
-impl Related {
-    // A walk that came through is a yes.
-    pub fn of(walk: Walk) -> Self
-        ensures { said result ≡ came walk }
-    {
-        match walk {
-            Walk::On { left: _, right: _ } => {
-                return Related::Yes;
-            }
-            Walk::Differ => {
-                return Related::No;
-            }
-        }
-    }
-
-    // The answer's number.
-    pub fn number(self) -> u8
-        ensures { result ≡ said self }
-    {
-        match self {
-            Related::No => 0,
-            Related::Yes => 1,
-            Related::Stop(fault) => fault.number(),
-        }
+// What a relation's answer is in numbers: 0 is no, 1 is yes, else the fault's number.
+pub fn number(related: Result<bool, Fault>) -> u8
+    ensures { result ≡ said related }
+{
+    match related {
+        Ok(yes) => yes as u8,
+        Err(fault) => u8::from(fault),
     }
 }
 
 // Equal OID, and equal value, normalised when the flag says so.
-pub fn same_attr(a: &[u8], b: &[u8], normalise: bool) -> Related
+pub fn same_attr(a: &[u8], b: &[u8], normalise: bool) -> Result<bool, Fault>
     ensures { said result ≡ asked (same_attr normalise) (whole attr_p a.now) (whole attr_p b.now) }
 {
-    if let Past::Stop(fault) = whole_attribute(a) {
-        return Related::Stop(fault);
-    }
-    if let Past::Stop(fault) = whole_attribute(b) {
-        return Related::Stop(fault);
-    }
-    Related::of(attr_walk(a, 0, b, 0, normalise))
+    whole::<Attribute>(a)?;
+    whole::<Attribute>(b)?;
+    let pair = Pair {
+        left: a,
+        right: b,
+        normalise,
+    };
+    Ok(pair.attr_walk(0, 0).is_some())
 }
 
 // As many attributes, and each of the first RDN has a match in the second. Which is first can decide: (a, a) is the same as (a, b), and
 // (a, b) is not the same as (a, a).
-pub fn same_rdn(a: &[u8], b: &[u8], normalise: bool) -> Related
+pub fn same_rdn(a: &[u8], b: &[u8], normalise: bool) -> Result<bool, Fault>
     ensures { said result ≡ asked (same_rdn normalise) (whole rdn_p a.now) (whole rdn_p b.now) }
 {
-    if let Past::Stop(fault) = whole_rdn(a) {
-        return Related::Stop(fault);
-    }
-    if let Past::Stop(fault) = whole_rdn(b) {
-        return Related::Stop(fault);
-    }
-    Related::of(rdn_walk(a, 0, b, 0, normalise))
+    whole::<Rdn>(a)?;
+    whole::<Rdn>(b)?;
+    let pair = Pair {
+        left: a,
+        right: b,
+        normalise,
+    };
+    Ok(pair.rdn_walk(0, 0).is_some())
 }
 
 // As many RDNs, each of the first name the same as the one at its place in the second, in that direction.
-pub fn same_dn(a: &[u8], b: &[u8], normalise: bool) -> Related
+pub fn same_dn(a: &[u8], b: &[u8], normalise: bool) -> Result<bool, Fault>
     ensures { said result ≡ asked (same_dn normalise) (whole name_p a.now) (whole name_p b.now) }
 {
-    if let Past::Stop(fault) = whole_name(a) {
-        return Related::Stop(fault);
-    }
-    if let Past::Stop(fault) = whole_name(b) {
-        return Related::Stop(fault);
-    }
-    Related::of(dn_walk(a, 0, b, 0, normalise))
+    whole::<Name>(a)?;
+    whole::<Name>(b)?;
+    let pair = Pair {
+        left: a,
+        right: b,
+        normalise,
+    };
+    Ok(pair.dn_walk(0, 0).is_some())
 }
