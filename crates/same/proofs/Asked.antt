@@ -9,7 +9,7 @@ use Rattle.std.specs.Prelude.{Result, Ok, Err, Some, None, is_some}
 use Rattle.fields.specs.Fields.{Parsed, whole}
 use Rattle.fields.specs.Answers.{number, passing, passed}
 use Rattle.fields.specs.declared.fault.Fault.{Fault}
-use Rattle.names.proofs.Judged.{Holds, stops}
+use Rattle.fields.proofs.Judged.{Holds, stops}
 use Rattle.same.specs.Answers.{said, asked}
 use Rattle.same.specs.Walks.{walk}
 

@@ -3,6 +3,7 @@ pub mod Alike
 pub mod Asked
 pub mod Compared
 pub mod Counts
+pub mod Dropped
 pub mod Frauds
 pub mod Itself
 pub mod Members

@@ -15,11 +15,11 @@ module _ {A : Type 0} (p : List ℕ → ℕ → Parsed A) (s : List ℕ) where
   pub any_standing : (test : A → Bool) (n at : ℕ) → any_of test p n s at ≡ any test (standing p n s at)
   unfolding any_of passes standing
   any_standing test zero at = refl
-  any_standing test (suc n) at = go (p s at) where
-    go : (x : Parsed A) → passes test x (λ e. any_of test p n s e) ≡ any test (with_rest x (λ e. standing p n s e))
-    unfolding passes
-    go (got a e) = rw (any_standing test n e)
-    go (stop r) = refl
+  any_standing test (suc n) at = go (λ e. any_standing test n e) (p s at) where
+    go : ((e : ℕ) → any_of test p n s e ≡ any test (standing p n s e)) → (x : Parsed A)
+        → passes test x (λ e. any_of test p n s e) ≡ any test (with_rest x (λ e. standing p n s e))
+    go rest (got a e) = rw (rest e)
+    go rest (stop r) = refl
 
   pub standing-whole : (n at : ℕ) (l : List A) (e : ℕ) → many p n s at ≡ got l e → standing p n s at ≡ l
   unfolding standing many

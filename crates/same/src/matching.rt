@@ -1,14 +1,15 @@
 // Whether an RDN has an attribute, or a match for each attribute of another RDN.
 ghost use Rattle.std.specs.Prelude.{◌≡◌};
-ghost use Rattle.fields.specs.Fields.{got, many};
+ghost use Rattle.fields.specs.Fields.{got, after, many};
+ghost use Rattle.fields.specs.Answers.{read};
 ghost use Rattle.names.specs.Names.{attr_p, rdn_p};
 ghost use Rattle.names.specs.Answers.{attr_of};
-ghost use Rattle.same.specs.Matching.{matched, rdn_has_name};
+ghost use Rattle.same.specs.Matching.{matched, rdn_has_name, same_attr};
 ghost use Rattle.same.specs.Rows.{standing};
 ghost use Rattle.same.specs.Walks.{walk, walk_at};
 
 use crate::Pair;
-use fields::Run;
+use fields::{Reading, Run};
 use names::{Attribute, attribute_at, rdn_begins};
 
 impl Pair<'_> {
@@ -43,9 +44,14 @@ impl Pair<'_> {
     pub fn has_name(self, rdn: Run, name: Attribute) -> bool
         ensures { result ≡ rdn_has_name self.entry.normalise (standing attr_p rdn.count self.entry.right.now rdn.first) (attr_of name self.entry.left.now) }
     {
-        rdn.any::<Attribute, _>(self.right, |at| {
-            let attribute = attribute_at(self.right, at)?;
-            Ok((self.same_attribute(name, attribute), attribute.value.end))
-        })
+        rdn.any::<Attribute, _>(self.right, |at| self.same_at(name, at))
+    }
+
+    // Whether the attribute at a place on the right is the same as one that was read on the left, and the place past it.
+    fn same_at(self, name: Attribute, at: usize) -> Reading<bool>
+        ensures { read result ≡ after (attr_p self.entry.right.now at) (λ a e. got (same_attr self.entry.normalise a (attr_of name self.entry.left.now)) e) }
+    {
+        let attribute = attribute_at(self.right, at)?;
+        Ok((self.same_attribute(name, attribute), attribute.value.end))
     }
 }

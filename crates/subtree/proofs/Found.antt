@@ -8,7 +8,7 @@ use mathlib.Core.List.{List}
 use native.Mathlib.Omega.{arith}
 use Rattle.fields.specs.Fields.{Parsed, got, stop, count_p, counted_p, whole}
 use Rattle.names.specs.Names.{attr_p, rdn_p, rdn_most}
-use Rattle.names.proofs.Judged.{Holds}
+use Rattle.fields.proofs.Judged.{Holds}
 use Rattle.same.specs.Matching.{rdn_has_name}
 use Rattle.same.specs.Answers.{asked, both_read}
 use Rattle.same.specs.Rows.{Fine, standing, has_read}
