@@ -23,7 +23,7 @@ module _ {A B : Type 0} (p : List ℕ → ℕ → Parsed A) (q : List ℕ → �
       → number f ≡ asked rel (whole p a) (whole q b)
   second_bad e x r h f k = rw (x.is, stops q b r h f k)
 
-came_by : (t : Bool) (e f : ℕ) → cond (is_some (cond t (Some (e, f)) None)) 1 0 ≡ cond t 1 0
+came_by : (t : Bool) (e f : ℕ) → cond (is_some {T = ℕ × ℕ} (cond t (Some (e, f)) None)) 1 0 ≡ cond t 1 0
 came_by true e f = refl
 came_by false e f = refl
 

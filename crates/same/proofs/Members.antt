@@ -1,10 +1,9 @@
 -- An RDN each of whose attributes is looked for in another (`sought_first`, `sought_stops`, `sought_none`), and RDNs of one attribute each
 -- (`one_each`). For `matches_walk` and `rdn_walk`; one attribute looked for: `any_standing` of Standing.antt.
-use Prim.Native.Nat.{ℕ, zero, suc, ◌-◌, ◌<◌, ◌≤◌}
+use Prim.Native.Nat.{ℕ, suc}
 use mathlib.Core.Path.{◌≡◌, refl}
 use mathlib.Core.Bool.{Bool, true, false, cond, or-false, and-true}
 use mathlib.Core.List.{List, [], ◌∷◌}
-use native.Mathlib.Omega.{arith}
 use Rattle.std.specs.Prelude.{Some, None}
 use Rattle.fields.specs.Fields.{Parsed, got, stop, after, many}
 use Rattle.names.specs.Names.{Attr, attr_p}
@@ -25,25 +24,20 @@ module _ (normalise : Bool) where
     first_sought x false h (got l e) = rw h
     first_sought x false h (stop r) = refl
 
-    pub sought_none : (rest at : ℕ) → rest ≤ 0 → walk (matched normalise) (many attr_p rest s at) (got row right) ≡ Some (at, right)
+    pub sought_none : (n at : ℕ) → n ≡ 0 → walk (matched normalise) (many attr_p n s at) (got row right) ≡ Some (at, right)
     unfolding many
-    sought_none zero at h = refl
-    sought_none (suc n) at h = absurd (omega arith)
+    sought_none n at h = rw h
 
-    pub sought_first : (rest at : ℕ) → 0 < rest → (x : Attr) (e : ℕ) → attr_p s at ≡ got x e → (t : Bool) → rdn_has_name normalise row x ≡ t
-        → walk (matched normalise) (many attr_p rest s at) (got row right)
-        ≡ cond t (walk (matched normalise) (many attr_p (rest - 1) s e) (got row right)) None
+    pub sought_first : (n m at : ℕ) → n ≡ suc m → (x : Attr) (e : ℕ) → attr_p s at ≡ got x e → (t : Bool) → rdn_has_name normalise row x ≡ t
+        → walk (matched normalise) (many attr_p n s at) (got row right)
+        ≡ cond t (walk (matched normalise) (many attr_p m s e) (got row right)) None
     unfolding many
-    sought_first zero at h x e k t i = absurd (omega arith)
-    sought_first (suc n) at h x e k t i =
-        let z : suc n - 1 ≡ n = omega arith in
-        rw (z, k) (first_sought x t i (many attr_p n s e))
+    sought_first n m at h x e k t i = rw (h, k) (first_sought x t i (many attr_p m s e))
 
-    pub sought_stops : (rest at : ℕ) → 0 < rest → (r : ℕ) → attr_p s at ≡ stop r
-        → walk (matched normalise) (many attr_p rest s at) (got row right) ≡ None
+    pub sought_stops : (n m at : ℕ) → n ≡ suc m → (r : ℕ) → attr_p s at ≡ stop r
+        → walk (matched normalise) (many attr_p n s at) (got row right) ≡ None
     unfolding many
-    sought_stops zero at h r k = absurd (omega arith)
-    sought_stops (suc n) at h r k = rw k
+    sought_stops n m at h r k = rw (h, k)
 
   -- ---- rows of one attribute each, which is sought in one place
 

@@ -1,18 +1,17 @@
--- Rows with their counts before them: what a row that was read holds (`row_read`, of an RDN `rdn_row`), and another row walked beside what
--- stands in it (`standing_walked`). For `matched_walk` and subtree; a row up to the first thing that can't be read: Standing.antt.
+-- Rows with their counts before them: what a row that was read holds (`row_read`, and by the place past it `row_past`), one that can't be
+-- read (`row_stops`), and another row walked beside what stands in it (`standing_walked`). For `matched_walk` and subtree; a row up to the
+-- first thing that can't be read: Standing.antt.
 use Prim.Native.Nat.{ℕ}
 use mathlib.Core.Path.{◌≡◌, refl, sym, ap, ◌∙◌}
 use mathlib.Core.Bool.{Bool}
 use mathlib.Core.List.{List}
 use native.Mathlib.Omega.{arith}
 use lib.ListN.{length}
-use Rattle.std.specs.Prelude.{Result, Ok, Option}
+use Rattle.std.specs.Prelude.{Option}
 use Rattle.fields.specs.Fields.{Parsed, got, stop, count_p, many, counted_p}
-use Rattle.fields.specs.Answers.{passing, begun}
-use Rattle.fields.specs.declared.fault.Fault.{Fault}
-use Rattle.fields.specs.declared.run.Run.{Run}
+use Rattle.fields.specs.Answers.{passing}
+use Rattle.fields.proofs.Ends.{passing_stops}
 use Rattle.fields.proofs.Many.{many-length}
-use Rattle.names.specs.Names.{attr_p, rdn_p, rdn_most}
 use Rattle.same.specs.Rows.{Fine, standing}
 use Rattle.same.specs.Walks.{walk}
 use Rattle.same.proofs.Standing.{standing-whole}
@@ -51,25 +50,25 @@ module _ {A : Type 0} (least most : ℕ) (p : List ℕ → ℕ → Parsed A) (s 
   unfolding counted_p
   row_read n f c h = row_of n f (rw c) (many p n s f) refl (rw c at h)
 
--- ---- an RDN that was begun and can be read
+  -- ---- by the place past it
 
-pub rdn_row : (s : List ℕ) (at : ℕ) (r : Result Run Fault) (a : Run) (e : ℕ) → begun r ≡ count_p 1 rdn_most s at → r ≡ Ok a
-    → passing (rdn_p s at) ≡ got tt e → Row 1 rdn_most attr_p s at a.count a.first
-unfolding rdn_p
-rdn_row s at r a e h k u = row_read 1 rdn_most attr_p s at _ _ (sym h ∙ ap begun k) (passing_fine (rdn_p s at) e u)
+  from_count : (n f : ℕ) → count_p least most s at ≡ got n f → counted_p least most p s at ≡ many p n s f
+  unfolding counted_p
+  from_count n f h = rw h
+
+  pub row_past : (n f e : ℕ) → count_p least most s at ≡ got n f → passing (many p n s f) ≡ got tt e → Row n f
+  row_past n f e c h = row_of n f (from_count n f c) (many p n s f) refl (passing_fine (many p n s f) e h)
+
+  pub row_stops : (n f r : ℕ) → count_p least most s at ≡ got n f → passing (many p n s f) ≡ stop r → counted_p least most p s at ≡ stop r
+  row_stops n f r c h = from_count n f c ∙ passing_stops (many p n s f) r h
 
 -- ---- two rows
-
-from_count : {A : Type 0} (least most : ℕ) (p : List ℕ → ℕ → Parsed A) (s : List ℕ) (at n f : ℕ) → count_p least most s at ≡ got n f
-    → counted_p least most p s at ≡ many p n s f
-unfolding counted_p
-from_count least most p s at n f h = rw h
 
 -- the first walked from the place past its count on, beside what stands in the second
 pub standing_walked : {A : Type 0} {least most : ℕ} {p : List ℕ → ℕ → Parsed A} {t : List ℕ} {bt m g : ℕ} → Row least most p t bt m g
     → (q : List A → List A → Bool) (r : Option (ℕ × ℕ)) (s : List ℕ) (at n f i : ℕ) → count_p least most s at ≡ got n f
-    → passing (counted_p least most p t bt) ≡ got tt i → r ≡ walk q (many p n s f) (got (standing p m t g) i)
+    → passing (many p m t g) ≡ got tt i → r ≡ walk q (many p n s f) (got (standing p m t g) i)
     → r ≡ walk q (counted_p least most p s at) (counted_p least most p t bt)
 standing_walked {least} {most} {p} y q r s at n f i c v w =
-    let k : y.end ≡ i = cc y.whole in
+    let k : y.end ≡ i = cc y.read in
     w ∙ rw (y.whole, y.stand, k, from_count least most p s at n f c)

@@ -1,7 +1,7 @@
 -- Two things walked side by side: whether the walk came through (`walk_both`), a loop that counts two rows down (`walk_none`, `walk_on`,
 -- `walk_differs`), rows with their counts before them (`counted_passes`, `counted_fails`, `counted_same`, and where a count can't be read),
 -- each for any element, relation, test of the lengths and reader. For src/walk.rt and subtree; a walk: specs/Walks.antt.
-use Prim.Native.Nat.{ℕ, zero, suc, ◌-◌, ◌<◌, ◌≤◌}
+use Prim.Native.Nat.{ℕ, suc}
 use mathlib.Core.Path.{◌≡◌, refl, sym, ◌∙◌}
 use mathlib.Core.Bool.{Bool, true, false, cond, ◌&&◌}
 use mathlib.Core.List.{List, ◌∷◌}
@@ -28,7 +28,7 @@ stop-right q (stop o) r = refl
 
 -- ---- a walk as a yes or no
 
-through_test : (t : Bool) (e f : ℕ) → is_some (cond t (Some (e, f)) None) ≡ t
+through_test : (t : Bool) (e f : ℕ) → is_some {T = ℕ × ℕ} (cond t (Some (e, f)) None) ≡ t
 through_test true e f = refl
 through_test false e f = refl
 
@@ -61,27 +61,22 @@ module _ {A : Type 0} (q : A → A → Bool) where
     step n (got x e) (stop r) = stop-right (places q) (after (many p n s e) (λ l f. got (x ∷ l) f)) r
     step n (stop r) b = refl
 
-    pub walk_none : (n at bt : ℕ) → n ≤ 0 → walk (places q) (many p n s at) (many p n t bt) ≡ Some (at, bt)
+    pub walk_none : (n at bt : ℕ) → n ≡ 0 → walk (places q) (many p n s at) (many p n t bt) ≡ Some (at, bt)
     unfolding many places
-    walk_none zero at bt h = refl
-    walk_none (suc n) at bt h = absurd (omega arith)
+    walk_none n at bt h = rw h
 
-    walk-some : (n at bt : ℕ) → 0 < n
-        → walk (places q) (many p n s at) (many p n t bt)
-        ≡ on (walk q (p s at) (p t bt)) (λ e f. walk (places q) (many p (n - 1) s e) (many p (n - 1) t f))
+    walk_some : (n m at bt : ℕ) → n ≡ suc m
+        → walk (places q) (many p n s at) (many p n t bt) ≡ on (walk q (p s at) (p t bt)) (λ e f. walk (places q) (many p m s e) (many p m t f))
     unfolding many
-    walk-some zero at bt h = absurd (omega arith)
-    walk-some (suc n) at bt h =
-        let k : suc n - 1 ≡ n = omega arith in
-        rw k (step n (p s at) (p t bt))
+    walk_some n m at bt h = rw h (step m (p s at) (p t bt))
 
-    pub walk_on : (n at bt e f : ℕ) → 0 < n → walk q (p s at) (p t bt) ≡ Some (e, f)
-        → walk (places q) (many p n s at) (many p n t bt) ≡ walk (places q) (many p (n - 1) s e) (many p (n - 1) t f)
-    walk_on n at bt e f h w = walk-some n at bt h ∙ rw w
+    pub walk_on : (n m at bt e f : ℕ) → n ≡ suc m → walk q (p s at) (p t bt) ≡ Some (e, f)
+        → walk (places q) (many p n s at) (many p n t bt) ≡ walk (places q) (many p m s e) (many p m t f)
+    walk_on n m at bt e f h w = walk_some n m at bt h ∙ rw w
 
-    pub walk_differs : (n at bt : ℕ) → 0 < n → walk q (p s at) (p t bt) ≡ None
+    pub walk_differs : (n m at bt : ℕ) → n ≡ suc m → walk q (p s at) (p t bt) ≡ None
         → walk (places q) (many p n s at) (many p n t bt) ≡ None
-    walk_differs n at bt h w = walk-some n at bt h ∙ rw w
+    walk_differs n m at bt h w = walk_some n m at bt h ∙ rw w
 
 -- ---- rows whose lengths are tested
 

@@ -1,5 +1,5 @@
 // Two attributes, RDNs or names walked side by side: where both end if they are related, nothing if they differ or can't be read.
-ghost use Rattle.std.specs.Prelude.{◌≡◌, List};
+ghost use Rattle.std.specs.Prelude.{◌≡◌, Bool, List};
 ghost use Rattle.fields.specs.Fields.{many};
 ghost use Rattle.names.specs.Names.{Attr, attr_p, rdn_p, name_p};
 ghost use Rattle.names.specs.Answers.{attr_of};
