@@ -11,5 +11,5 @@ mod values;
 mod walk;
 
 pub use pair::Pair;
-pub use related::{number, same_attr, same_dn, same_rdn};
-pub use walk::same_names;
+pub use related::{ask, number, same_attr, same_dn, same_rdn};
+pub use walk::{rdns_walk, same_names};

@@ -21,12 +21,7 @@ pub fn same_names(file: &[u8], a: Span, b: Span, normalise: bool) -> bool
     if equal(part(file, a), part(file, b)) {
         return true;
     }
-    let pair = Pair {
-        left: file,
-        right: file,
-        normalise,
-    };
-    pair.dn_walk(a.start, b.start).is_some()
+    Pair::of(file, file, normalise).dn_walk(a.start, b.start).is_some()
 }
 
 // n RDNs from each of two places on, by a walk of one from each.

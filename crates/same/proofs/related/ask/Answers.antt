@@ -1,0 +1,9 @@
+-- `ask` answers the first fault of the first bad argument, else what the walk of the two finds.
+use Rattle.fields.proofs.Judged.{holds}
+use Rattle.same.proofs.Asked.{walked}
+use Rattle.same.proofs.related.ask.Goals as goal
+
+pub returns : goal.returns
+returns g c relation h =
+    rw (c.is_some.ensures, h _ c.by.ensures)
+    (walked _ relation _ _ _ _ (holds _ _ _ c.whole.ensures _ c.in_ok-whole.was) (holds _ _ _ c.whole-2.ensures _ c.in_ok-whole-2.was))
