@@ -22,7 +22,11 @@ pub fn number(related: Result<bool, Fault>) -> u8
 }
 
 // Whether two arguments are related, by a walk of both from their starts, once both were judged through.
-pub fn ask<T: Thing, F: FnOnce() -> Option<(usize, usize)>>(a: &[u8], b: &[u8], by: F) -> Result<bool, Fault>
+pub fn ask<T: Thing, F: FnOnce() -> Option<(usize, usize)>>(
+    a: &[u8],
+    b: &[u8],
+    by: F,
+) -> Result<bool, Fault>
     requires { F.IsAlwaysCallable by }
     ensures { (relation : T.Value → T.Value → Bool)
         → ((w : _) → F.post by w → w ≡ walk relation (T.thing_p a.now 0) (T.thing_p b.now 0))

@@ -39,7 +39,13 @@ fn together(a: &[u8], b: &[u8]) -> usize
 fn alike(x: u8, y: u8) -> bool
     ensures { result ≡ eqb (lowered x) (lowered y) }
 {
-    x == y || if x < y { lower(x) == y } else { x == lower(y) }
+    if x == y {
+        return true;
+    }
+    if x < y {
+        return lower(x) == y;
+    }
+    x == lower(y)
 }
 
 // A string from its first byte on that is no space.

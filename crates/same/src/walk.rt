@@ -21,11 +21,18 @@ pub fn same_names(file: &[u8], a: Span, b: Span, normalise: bool) -> bool
     if equal(part(file, a), part(file, b)) {
         return true;
     }
-    Pair::of(file, file, normalise).dn_walk(a.start, b.start).is_some()
+    Pair::of(file, file, normalise)
+        .dn_walk(a.start, b.start)
+        .is_some()
 }
 
 // n RDNs from each of two places on, by a walk of one from each.
-pub fn rdns_walk<F: Fn(usize, usize) -> Option<(usize, usize)>>(n: usize, at: usize, bt: usize, one: F) -> Option<(usize, usize)>
+pub fn rdns_walk<F: Fn(usize, usize) -> Option<(usize, usize)>>(
+    n: usize,
+    at: usize,
+    bt: usize,
+    one: F,
+) -> Option<(usize, usize)>
     requires { F.IsAlwaysCallable one }
     ensures { (q : List Attr → List Attr → Bool) (s t : _) → Walks q (rdn_p s) (rdn_p t) (F.post one)
         → result ≡ walk (places q) (many rdn_p n s at) (many rdn_p n t bt) }
@@ -42,12 +49,14 @@ impl Pair<'_> {
     pub(crate) fn dn_walk(self, at: usize, bt: usize) -> Option<(usize, usize)>
         ensures { result ≡ walk_at same_dn name_p self.entry at bt }
     {
-        let a = name_begins(self.left, at).ok()?;
-        let b = name_begins(self.right, bt).ok()?;
-        if a.count != b.count {
+        let left = name_begins(self.left, at).ok()?;
+        let right = name_begins(self.right, bt).ok()?;
+        if left.count != right.count {
             return None;
         }
-        rdns_walk(a.count, a.first, b.first, |at, bt| self.rdn_walk(at, bt))
+        rdns_walk(left.count, left.first, right.first, |at, bt| {
+            self.rdn_walk(at, bt)
+        })
     }
 
     // The RDNs at two places: as many attributes, and each of the first has a match in the second. Most have one, which needs no search.

@@ -6,5 +6,5 @@ use Rattle.same.proofs.values.alike.Goals as goal
 pub returns-then-x-y-2 : goal.returns-then-x-y-2
 returns-then-x-y-2 c = rw c.lower.ensures (first_less _ _ (omega arith))
 
-pub returns-else-x-y-2 : goal.returns-else-x-y-2
-returns-else-x-y-2 c = rw c.lower-else-x-y-2.ensures (second_less _ _ (omega arith))
+pub returns : goal.returns
+returns c = rw c.lower-2.ensures (second_less _ _ (omega arith))

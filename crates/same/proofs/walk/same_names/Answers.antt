@@ -14,6 +14,7 @@ returns-then-equal c =
 
 pub returns : goal.returns
 returns c =
+    let walked = rw c.of.ensures at c.dn_walk.ensures in
     bytes_differ _ _ _ _ _
     (parts_compared _ _ _ _ _ c.part.ensures c.part-2.ensures c.equal.ensures ∙ c.if-equal.false)
-    (c.is_some.ensures ∙ ap is_some c.dn_walk.ensures ∙ walk_both (same_dn _) (name_p _ _) (name_p _ _))
+    (c.is_some.ensures ∙ ap is_some walked ∙ walk_both (same_dn _) (name_p _ _) (name_p _ _))
