@@ -1,31 +1,20 @@
 -- Of two names the first of which has no more RDNs: whether as many RDNs of the second, walked beside the first's, are related
 -- (`front_judged`), for the proof of `subtree`. Rows of one length: same/proofs/Walks.antt; what is asked: specs/Subtree.antt.
 use Prim.Native.Nat.{ℕ, ◌≤◌}
-use mathlib.Core.Path.{◌≡◌, refl, sym, ap, ◌∙◌}
+use mathlib.Core.Path.{◌≡◌, refl, sym, ◌∙◌}
 use mathlib.Core.Bool.{Bool, true}
 use mathlib.Core.List.{List, [], ◌∷◌}
 use native.Mathlib.Omega.{arith}
 use lib.ListN.{length, take}
 use lib.Dec.{leb}
 use borrow.Author.Tests.{le-leb}
-use Rattle.fields.specs.Fields.{Parsed, got, count_p, many, counted_p}
+use Rattle.std.specs.Prelude.{is_some}
+use Rattle.fields.specs.Fields.{Parsed, got, many, counted_p}
 use Rattle.fields.proofs.Many.{many_prefix}
-use Rattle.names.specs.Names.{rdn_p, name_p, name_most}
-use Rattle.names.specs.Answers.{name_begun}
-use Rattle.names.specs.declared.read.Name.{Name}
-use Rattle.names.specs.declared.read.NameAt.{NameAt}
-use Rattle.names.specs.declared.read.NameAt.TheVariants as name
 use Rattle.same.specs.Same.{places}
 use Rattle.same.specs.Walks.{walk}
-use Rattle.same.specs.Rows.{Fine}
-use Rattle.same.proofs.Walks.{through, walk_both, tested}
-use Rattle.same.proofs.Rows.{Row, row_read}
-
--- a name that was begun and can be read
-pub name_row : (s : List ℕ) (at : ℕ) (r : NameAt) (a : Name) → name_begun r ≡ count_p 0 name_most s at → r ≡ name.Got a
-    → Fine (name_p s at) → Row 0 name_most rdn_p s at a.count a.first
-unfolding name_p
-name_row s at r a h k u = row_read 0 name_most rdn_p s at _ _ (sym h ∙ ap name_begun k) u
+use Rattle.same.proofs.Walks.{walk_both, tested}
+use Rattle.same.proofs.Rows.{Row}
 
 -- what stands past the first list's places does not count
 places-take : {A : Type 0} (q : A → A → Bool) (x y : List A) → places q x (take (length x) y) ≡ places q x y
@@ -40,8 +29,8 @@ module _ {A : Type 0} {least most : ℕ} {p : List ℕ → ℕ → Parsed A} {s 
   few h = le-leb (length x.things) (length y.things) (omega (arith, x.count, y.count))
 
   pub front_judged : (q : A → A → Bool) → n ≤ m
-      → through (walk (places q) (many p n s f) (many p n t g))
-      ≡ through (walk (tested leb (places q)) (counted_p least most p s at) (counted_p least most p t bt))
+      → is_some (walk (places q) (many p n s f) (many p n t g))
+      ≡ is_some (walk (tested leb (places q)) (counted_p least most p s at) (counted_p least most p t bt))
   front_judged q h =
       let front = many_prefix p t n m g y.things y.end h y.read in
       let there : many p n t g ≡ got (take (length x.things) y.things) front.place = rw x.count front.front in

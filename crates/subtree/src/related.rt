@@ -8,58 +8,33 @@ ghost use Rattle.same.specs.Answers.{said, asked};
 ghost use Rattle.subtree.specs.Subtree.{is_subtree_rdn, is_subtree_of};
 
 use crate::under::{subtree, subtree_rdn_walk};
-use fields::Past;
-use names::{RdnAt, rdn_begins, whole_attribute, whole_name, whole_rdn};
-use same::{Related, has_name};
+use fields::{Fault, whole};
+use names::{Attribute, Name, Rdn, attribute_at, rdn_begins};
+use same::{Pair, ask};
 
 // Whether some attribute of an RDN is the same as this one.
-pub fn rdn_has_name(rdn: &[u8], name: &[u8], normalise: bool) -> Related
+pub fn rdn_has_name(rdn: &[u8], name: &[u8], normalise: bool) -> Result<bool, Fault>
     ensures { said result ≡ asked (rdn_has_name normalise) (whole rdn_p rdn.now) (whole attr_p name.now) }
 {
-    if let Past::Stop(fault) = whole_rdn(rdn) {
-        return Related::Stop(fault);
-    }
-    if let Past::Stop(fault) = whole_attribute(name) {
-        return Related::Stop(fault);
-    }
-    match rdn_begins(rdn, 0) {
-        RdnAt::Got(a) => {
-            if has_name(rdn, a, name, 0, normalise) {
-                Related::Yes
-            } else {
-                Related::No
-            }
-        }
-        RdnAt::Stop(fault) => Related::Stop(fault),
-    }
+    whole::<Rdn>(rdn)?;
+    whole::<Attribute>(name)?;
+    let attributes = rdn_begins(rdn, 0)?;
+    let attribute = attribute_at(name, 0)?;
+    Ok(Pair::of(name, rdn, normalise).has_name(attributes, attribute))
 }
 
 // No more attributes, and the second RDN has each of the first's.
-pub fn is_subtree_rdn(a: &[u8], b: &[u8], normalise: bool) -> Related
+pub fn is_subtree_rdn(a: &[u8], b: &[u8], normalise: bool) -> Result<bool, Fault>
     ensures { said result ≡ asked (is_subtree_rdn normalise) (whole rdn_p a.now) (whole rdn_p b.now) }
 {
-    if let Past::Stop(fault) = whole_rdn(a) {
-        return Related::Stop(fault);
-    }
-    if let Past::Stop(fault) = whole_rdn(b) {
-        return Related::Stop(fault);
-    }
-    Related::of(subtree_rdn_walk(a, 0, b, 0, normalise))
+    ask::<Rdn, _>(a, b, || subtree_rdn_walk(Pair::of(a, b, normalise), 0, 0))
 }
 
-// No more RDNs, each a subtree of the one at its place.
-pub fn is_subtree_of(a: &[u8], b: &[u8], normalise: bool) -> Related
+// No more RDNs, each a subtree of the one at its place. Not by `ask`: the walk ends before the second name does, which may have more RDNs.
+pub fn is_subtree_of(a: &[u8], b: &[u8], normalise: bool) -> Result<bool, Fault>
     ensures { said result ≡ asked (is_subtree_of normalise) (whole name_p a.now) (whole name_p b.now) }
 {
-    if let Past::Stop(fault) = whole_name(a) {
-        return Related::Stop(fault);
-    }
-    if let Past::Stop(fault) = whole_name(b) {
-        return Related::Stop(fault);
-    }
-    if subtree(a, b, normalise) {
-        Related::Yes
-    } else {
-        Related::No
-    }
+    whole::<Name>(a)?;
+    whole::<Name>(b)?;
+    Ok(subtree(Pair::of(a, b, normalise)))
 }

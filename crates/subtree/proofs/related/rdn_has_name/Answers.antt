@@ -1,31 +1,22 @@
--- `rdn_has_name` answers the first fault of the first bad argument, else whether the RDN has the attribute; the arm for an RDN that can
--- no longer be bad is never taken.
-use mathlib.Core.Path.{sym, ap, ◌∙◌}
+-- `rdn_has_name` answers the first fault of the first bad argument, else whether the RDN has the attribute; what was judged through can be
+-- read again.
+use Rattle.fields.proofs.Asked.{begun_ok, begun_err}
+use Rattle.fields.proofs.Judged.{holds}
 use Rattle.names.specs.Names.{attr_p, rdn_p}
-use Rattle.names.specs.Answers.{rdn_begun}
-use Rattle.names.proofs.Judged.{holds}
-use Rattle.same.proofs.Asked.{first_bad, second_bad}
-use Rattle.subtree.proofs.Found.{has_found, rdn_begun_lem}
+use Rattle.names.proofs.Attributes.{attr_read, attr_stops}
+use Rattle.subtree.proofs.Found.{has_found, rdn_begun_lem, attr_there}
 use Rattle.subtree.proofs.related.rdn_has_name.Goals as goal
 
-pub returns-in-Stop : goal.returns-in-Stop
-returns-in-Stop c =
-    first_bad _ _ _ _ _ _ c.whole_rdn.ensures _ c.in-Stop.is
+pub returns-in_err-attributes : goal.returns-in_err-attributes
+returns-in_err-attributes c =
+    absurd (rdn_begun_lem _ _ (holds rdn_p _ _ c.whole.ensures _ c.in_ok-whole.was) _ (begun_err c.rdn_begins.ensures c.in_err-attributes.was))
 
-pub returns-in-Stop-whole_attribute : goal.returns-in-Stop-whole_attribute
-returns-in-Stop-whole_attribute c =
-    second_bad _ _ _ _ _ _ (holds _ _ _ c.whole_rdn.ensures _ c.in_default.is) _ c.whole_attribute.ensures _ c.in-Stop-whole_attribute.is
+pub returns-in_err-attribute : goal.returns-in_err-attribute
+returns-in_err-attribute c =
+    absurd (attr_there _ _ (holds attr_p _ _ c.whole-2.ensures _ c.in_ok-whole-2.was) _ (attr_stops _ _ _ c.attribute_at.ensures _ c.in_err-attribute.was))
 
-pub returns-then-has_name : goal.returns-then-has_name
-returns-then-has_name c =
-    has_found _ _ _ _ _ (holds rdn_p _ _ c.whole_rdn.ensures _ c.in_default.is) (holds attr_p _ _ c.whole_attribute.ensures _ c.in_default-whole_attribute.is) _ _
-    (sym c.rdn_begins.ensures ∙ ap rdn_begun c.in-Got.is) _ (sym c.if-has_name.true ∙ c.has_name.ensures)
-
-pub returns-else-has_name : goal.returns-else-has_name
-returns-else-has_name c =
-    has_found _ _ _ _ _ (holds rdn_p _ _ c.whole_rdn.ensures _ c.in_default.is) (holds attr_p _ _ c.whole_attribute.ensures _ c.in_default-whole_attribute.is) _ _
-    (sym c.rdn_begins.ensures ∙ ap rdn_begun c.in-Got.is) _ (sym c.if-has_name.false ∙ c.has_name.ensures)
-
-pub returns-in-Stop-rdn_begins : goal.returns-in-Stop-rdn_begins
-returns-in-Stop-rdn_begins c =
-    absurd (rdn_begun_lem _ _ (holds rdn_p _ _ c.whole_rdn.ensures _ c.in_default.is) _ (sym c.rdn_begins.ensures ∙ ap rdn_begun c.in-Stop-rdn_begins.is))
+pub returns : goal.returns
+returns c =
+    let has = rw c.of.ensures at c.has_name.ensures in
+    has_found _ _ _ _ _ (holds rdn_p _ _ c.whole.ensures _ c.in_ok-whole.was) (holds attr_p _ _ c.whole-2.ensures _ c.in_ok-whole-2.was) _ _
+    (begun_ok c.rdn_begins.ensures c.in_ok-attributes.was) _ _ (attr_read _ _ _ c.attribute_at.ensures _ c.in_ok-attribute.was) _ has
