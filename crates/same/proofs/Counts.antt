@@ -1,9 +1,9 @@
 -- How many bytes go together, and how many spaces come first, as the code counts them by what it takes (`together_taken`, `spaces_taken`), and
 -- that neither is more than there is (`together_most`, `spaces_most`). What they count: specs/Values.antt; what the walk makes of it:
 -- Abreast.antt.
-use Prim.Native.Nat.{ℕ, suc, ◌+◌, ◌≤◌}
+use Prim.Native.Nat.{ℕ, suc, ◌≤◌}
 use mathlib.Core.Path.{◌≡◌, refl}
-use mathlib.Core.Bool.{Bool, true, false, cond, not, ◌&&◌}
+use mathlib.Core.Bool.{Bool, true, not, ◌&&◌}
 use mathlib.Core.List.{List, [], ◌∷◌}
 use native.Mathlib.Omega.{arith}
 use lib.ListN.{length}

@@ -2,7 +2,7 @@
 -- read (`row_stops`), and another row walked beside what stands in it (`standing_walked`). For `matched_walk` and subtree; a row up to the
 -- first thing that can't be read: Standing.antt.
 use Prim.Native.Nat.{ℕ}
-use mathlib.Core.Path.{◌≡◌, refl, sym, ap, ◌∙◌}
+use mathlib.Core.Path.{◌≡◌, refl, ◌∙◌}
 use mathlib.Core.Bool.{Bool}
 use mathlib.Core.List.{List}
 use native.Mathlib.Omega.{arith}

@@ -42,14 +42,17 @@ impl Pair<'_> {
 
     // Whether some attribute of an RDN on the right is the same as one that was read on the left.
     pub fn has_name(self, rdn: Run, name: Attribute) -> bool
-        ensures { result ≡ rdn_has_name self.entry.normalise (standing attr_p rdn.count self.entry.right.now rdn.first) (attr_of name self.entry.left.now) }
+        ensures { result ≡ rdn_has_name self.entry.normalise
+            (standing attr_p rdn.count self.entry.right.now rdn.first)
+            (attr_of name self.entry.left.now) }
     {
         rdn.any::<Attribute, _>(self.right, |at| self.same_at(name, at))
     }
 
     // Whether the attribute at a place on the right is the same as one that was read on the left, and the place past it.
     fn same_at(self, name: Attribute, at: usize) -> Reading<bool>
-        ensures { read result ≡ after (attr_p self.entry.right.now at) (λ a e. got (same_attr self.entry.normalise a (attr_of name self.entry.left.now)) e) }
+        ensures { read result ≡ after (attr_p self.entry.right.now at) (λ a e.
+            got (same_attr self.entry.normalise a (attr_of name self.entry.left.now)) e) }
     {
         let attribute = attribute_at(self.right, at)?;
         Ok((self.same_attribute(name, attribute), attribute.value.end))

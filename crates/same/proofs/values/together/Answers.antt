@@ -2,7 +2,6 @@
 use Rattle.std.proofs.Common.{rules, tests, ◌∙◌, not, ◌&&◌, eqb}
 use Rattle.std.proofs.lemmas.Iterator.{YieldsList-from_slice, YieldsList-from_zip}
 use Rattle.std.proofs.lemmas.Iterator.Consumers.{count_from_yields_List, YieldsList-at}
-use Rattle.std.proofs.lemmas.Bool.Decides.{nat_tests}
 use Rattle.std.proofs.lemmas.Iterator.Search.{YieldsList-from_take_while}
 use Rattle.text.specs.Bytes.{lowered}
 use Rattle.same.proofs.Counts.{together_taken}
