@@ -13,15 +13,17 @@ pub(crate) fn same_normal(a: &[u8], b: &[u8]) -> bool
 {
     let mut x = past_spaces(a);
     let mut y = past_spaces(b);
-    loop {
+    'words: loop {
         let n = together(x, y);
         let x_end = &x[n..];
         let y_end = &y[n..];
-        x = past_spaces(x_end);
-        y = past_spaces(y_end);
-        if x.len() == x_end.len() || y.len() == y_end.len() {
-            return x.is_empty() && y.is_empty();
+        let x_next = past_spaces(x_end);
+        let y_next = past_spaces(y_end);
+        if x_next.len() == x_end.len() || y_next.len() == y_end.len() {
+            return x_next.is_empty() && y_next.is_empty();
         }
+        x = x_next;
+        y = y_next;
     }
 }
 

@@ -4,8 +4,8 @@ use lib.ListN.{length}
 use Rattle.same.proofs.Abreast.{Abreast}
 use Rattle.same.proofs.values.same_normal.Given as goal
 
-abbrev pub invariant-loop-x : goal.invariant-loop-x
-invariant-loop-x l = Abreast l.a l.b l.x l.y
+abbrev pub invariant-words : goal.invariant-words
+invariant-words l = Abreast l.a l.b l.x l.y
 
-abbrev pub decreases-loop-x : goal.decreases-loop-x
-decreases-loop-x l = length l.x
+abbrev pub decreases-words : goal.decreases-words
+decreases-words l = length l.x
