@@ -6,7 +6,6 @@ mod line;
 mod replying;
 
 ghost use Rattle.std.specs.Prelude.{List, ◌++◌, ◌≡◌, ℕ, ◌+◌, ◌*◌, ◌≤◌, length};
-ghost use Rattle.io.specs.Counts.{IsPrefixLen};
 ghost use Rattle.places.specs.Limits.{bundle_most};
 ghost use Rattle.reply.specs.declared.Reply.TheVariants.{Accepted};
 ghost use Rattle.report.specs.Lines.{line_of, line_shown, newline, places_shown, spaced, words};
@@ -17,10 +16,9 @@ use places::{BundlePlace, RootPlace};
 use reply::{Answer, Path, Reply};
 pub use replying::{Room, reply_to};
 
-// The line for an answer. The second clause follows from the first; with it, `as_slice` needs no proof.
+// The line for an answer.
 pub fn line_of(answer: Answer) -> Line
-    ensures line { result ≡ line_shown (line_of answer) }
-    ensures prefix_len { IsPrefixLen result.length result.bytes }
+    ensures { result ≡ line_shown (line_of answer) }
 {
     match answer.reply {
         Reply::Accepted { root, steps } => accepted(root, steps, answer.path),

@@ -1,6 +1,5 @@
 // A line under way.
 ghost use Rattle.std.specs.Prelude.{List, [], ◌++◌, ◌≡◌, ℕ, ◌+◌, ◌≤◌, length, take};
-ghost use Rattle.io.specs.Counts.{IsPrefixLen};
 ghost use Rattle.report.specs.Lines.{line_most, line_shown};
 ghost use Rattle.report.specs.Text.{decimal};
 
@@ -28,10 +27,9 @@ impl Line {
 
     // The bytes of the line, without the zeros past them.
     pub fn as_slice(&self) -> &[u8]
-        requires { IsPrefixLen self.now.length self.now.bytes }
         ensures { result.now ≡ take self.now.length self.now.bytes }
     {
-        &self.bytes[..self.length]
+        &self.bytes[..self.length.min(Line::MOST)]
     }
 
     // The line with more bytes behind it.
