@@ -17,7 +17,8 @@ use places::{BundlePlace, RootPlace};
 use reply::{Answer, Path, Reply};
 pub use replying::{Room, reply_to};
 
-// The line for an answer. The second clause follows from the first; with it, `as_slice` needs no proof.
+// The line for an answer: a function, which the paper's words in specs/ are named for. The second clause follows from the first; with
+// it, `as_slice` needs no proof.
 pub fn line_of(answer: Answer) -> Line
     ensures line { result ≡ line_shown (line_of answer) }
     ensures prefix_len { IsPrefixLen result.length result.bytes }
