@@ -1,4 +1,4 @@
-// What is written behind a case's label: the reply.
+// What is written behind a case's label: the reply. The lent room is bytes that need not be text.
 use fields::Fault;
 use std::io;
 

@@ -22,7 +22,8 @@ pub fn open<R: Files>(rt: &R, name: &[u8]) -> io::Result<R::File>
 }
 
 // Reads into buf from its start, to the end of what there is or as far as there is room; how many bytes were read. Where the bytes to come
-// are known, those read are the first of them, as many as there are or as there is room for. A `while`, since how far a turn gets is read's to say.
+// are known, those read are the first of them, as many as there are or as there is room for. A `while`, since how far a turn gets is
+// read's to say.
 pub fn fill<R: Read>(reader: &mut R, buf: &mut [u8]) -> io::Result<usize>
     ensures count { ReadsAtMost result buf.new }
     ensures bytes { IfOk result (λ n. IfSome (R.remaining reader.old) (λ xs. take n buf.new ≡ take (length buf.new) xs)) }

@@ -15,6 +15,7 @@ use std::io::{Read, Result};
 use std::rt::Files;
 use waiting::{number, pause};
 
+// Arguments go by number, since std's `args` allocates.
 fn main(rt: HostRuntime) -> Result<()> {
     for i in 1..usize::MAX {
         if !replay(&rt, i)? {

@@ -4,7 +4,8 @@ use report::{Room, line_of};
 use search::paused;
 use std::io::Result;
 
-// A number in decimal digits, of which those behind one over 999,999 are not read; another byte counts as 0.
+// A number in decimal digits, of which those behind one over 999,999 are not read; another byte counts as 0. The tray's numbers have
+// other digits and another limit, so that one function for both would take both as arguments and be no shorter.
 pub(crate) fn number(digits: &[u8]) -> u64 {
     let mut n = 0;
     for b in digits {

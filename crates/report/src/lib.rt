@@ -16,7 +16,7 @@ use places::{BundlePlace, RootPlace};
 use reply::{Answer, Path, Reply};
 pub use replying::{Room, reply_to};
 
-// The line for an answer.
+// The line for an answer: a function, which the paper's words in specs/ are named for.
 pub fn line_of(answer: Answer) -> Line
     ensures { result ≡ line_shown (line_of answer) }
 {

@@ -5,7 +5,7 @@ ghost use Rattle.report.specs.Text.{decimal};
 
 use places::BundlePlace;
 
-// Bytes, zeros past them, and how many they are.
+// Bytes, zeros past them, and how many they are: an array and its length, since nothing is allocated.
 #[derive(Clone, Copy)]
 pub struct Line {
     pub bytes: [u8; Line::MOST],

@@ -1,4 +1,4 @@
-// What is written of a case: its label, the terminal's line, and the room as slots.
+// What is written of a case: its label, the terminal's line, and the room as slots. A label is bytes that need not be text.
 ghost use Rattle.std.specs.Prelude.{◌≤◌, length};
 
 use reply::{Answer, Slot};

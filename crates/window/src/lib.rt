@@ -9,7 +9,7 @@ use std::env::{Env, FillError};
 use std::io::{Input, Print, Read, Result};
 use std::rt::Files;
 
-// All that a terminal does; messages go to `errors`, which is its standard error.
+// All that a terminal does; messages go to `errors`, which is its standard error. Arguments go by number, since std's `args` allocates.
 pub fn serve<R: Env + Files + Input + Print, E: Print>(rt: &R, errors: &E) {
     let terminal = Terminal { rt, errors };
     if !terminal.answer_argument(1) {
