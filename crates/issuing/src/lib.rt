@@ -16,7 +16,7 @@ use row::issuers_row;
 use rows::either;
 use same::same_names;
 
-// Who issued whom: a row for each subject of the bundle.
+// Who issued whom: a row for each subject of the bundle. Two arrays, since each is promised by itself, and a search is lent each by itself.
 #[derive(Clone, Copy)]
 pub struct Issuing {
     pub bundle: [u64; BundlePlace::MOST],

@@ -45,6 +45,7 @@ pub fn well_formed(file: &[u8], head: Head, cert: Record) -> bool
     equal(part(file, strings.outer), part(file, strings.inner))
 }
 
+// The version is the file's number; this one alone has a meaning.
 const V3: usize = 2;
 
 // No critical extension was left unhandled.

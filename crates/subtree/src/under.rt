@@ -9,7 +9,7 @@ ghost use Rattle.subtree.specs.Subtree.{is_subtree_rdn, is_subtree_of};
 use names::{name_begins, rdn_begins};
 use same::{Pair, rdns_walk};
 
-// Where two RDNs end, if the first is a subtree of the second.
+// Where two RDNs end, if the first is a subtree of the second. Not `rdn_walk` of same, which asks for as many and walks one attribute alone.
 pub(crate) fn subtree_rdn_walk(pair: Pair, at: usize, bt: usize) -> Option<(usize, usize)>
     ensures { result ≡ walk_at is_subtree_rdn rdn_p pair.entry at bt }
 {
