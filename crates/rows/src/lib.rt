@@ -58,7 +58,8 @@ pub fn either(row: u64, other: u64) -> u64
     row | other
 }
 
-// The lowest place of a row; as many as a row has room for where it has none.
+// The lowest place of a row; as many as a row has room for where it has none: `lowest` of specs/, which the promises above cite, is a number
+// then too, and no Option. So is `highest`.
 pub fn lowest(row: u64) -> u8
     ensures { result ≡ lowest row }
 {

@@ -1,5 +1,5 @@
 // The search over a question: it finds the first path that reaches a root under the policy, and what then waits is left in lent room. The
-// card file is left to others.
+// card file is left to others. The two functions share the refusal and the run; one that handed out both would be no shorter.
 #![tactic(auto)]
 
 mod lay;
