@@ -56,7 +56,7 @@ impl Extensions {
     };
 }
 
-// The extensions at a place, of a record with such flags.
+// The extensions at a place, of a record with such flags, which are handed on beside file and place: they stand in the record's head.
 #[tactic(auto, unfolding(crate::specs::Extensions::extensions_p))]
 pub fn extensions_at(file: &[u8], at: usize, flags: usize) -> Reading<Extensions>
     ensures { read result ≡ extensions_p flags file.now at }
