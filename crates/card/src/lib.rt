@@ -66,7 +66,7 @@ fn card_at(file: &[u8], at: usize) -> Reading<Card>
     Ok((card, next))
 }
 
-// The place past the edition.
+// The place past the edition. One function for this and the purpose of a task would take the byte and the fault, and be as long.
 #[tactic(auto, unfolding(crate::specs::Content::edition_p))]
 fn edition_past(file: &[u8], at: usize) -> Result<usize, Fault>
     ensures { passed result ≡ passing (edition_p file.now at) }

@@ -17,6 +17,7 @@ pub struct Time {
 }
 
 impl Time {
+    // No `From`: a number is made a time here alone, and no rule but the dates' opens one.
     #[tactic(auto, unfolding(crate::specs::Rules::at))]
     pub fn at(now: u64) -> Time
         ensures { result ≡ at now }

@@ -9,7 +9,8 @@ use policy::{Seats, seats_in};
 use question::{Question, pose};
 use reply::{Slot, room_for};
 
-// What is asked: how many certificates there are, the budget, and whether what waits stays in the records at the end.
+// What is asked: how many certificates there are, the budget, and whether what waits stays in the records at the end. A flag beside the
+// budget, and no Option: there is a budget in both cases, the file's own where nothing stays.
 #[derive(Clone, Copy)]
 pub(crate) struct Terms {
     pub(crate) budget: u64,
