@@ -1,17 +1,18 @@
--- The children that a row offers: the lowest is the last of them (`children-lowest`), and there are none past the row's places
--- (`offered_wide`). For `spread` and `look`; the children: `offered` of steps/specs/Parts.antt, with its laws in steps/proofs/Levels.antt.
+-- The children that a row offers: the lowest is the last of them (`children-lowest`), a row without one has none (`children-none`), and
+-- there are none past the row's places (`offered_wide`). For `spread` and `look`; the children: `offered` of steps/specs/Parts.antt, with
+-- its laws in steps/proofs/Levels.antt.
 use mathlib.Core.Bool.{Bool, true, false, not, ◌&&◌}
 use mathlib.Core.List.{List, [], ◌∷◌, ◌++◌, map}
 use mathlib.Core.Path.{◌≡◌, refl, ap, ◌∙◌}
-use Prim.Native.Nat.{ℕ, zero, suc, ◌^◌, ◌≤◌, ◌<◌}
+use Prim.Native.Nat.{ℕ, zero, suc, ◌≤◌, ◌<◌}
 use native.Mathlib.Omega.{arith}
 use borrow.Author.Tests.{eqb-true, eqb-false, ltb-true, ltb-false}
 use lib.Dec.{eqb, ltb}
 use Rattle.order.specs.Walk.{put, keep, down, snoc}
 use Rattle.rows.specs.Rows.{has, joined, left, lowest}
 use Rattle.rows.proofs.Places.{has_dropped, lowest_least}
+use Rattle.rows.proofs.Taking.{lowest-there}
 use Rattle.steps.specs.Parts.{offered}
-use Rattle.steps.proofs.Least.{lowest-place}
 use Rattle.steps.proofs.Levels.{and_yes, and_no}
 use Rattle.stack.specs.Stacked.{children}
 
@@ -48,15 +49,15 @@ offered_low (suc n) row i p y under w l = go (eqb n i) refl (λ k. offered_low n
         let same : has n (left row (joined 0 i)) ≡ has n row = dropped n ∙ rw q (and_yes (has n row)) in
         rw same (more (has n row) (keep (λ j. has j row) (down n)) (keep (λ j. has j (left row (joined 0 i))) (down n)) (ih (omega (arith, ne))))
 
--- the lowest place of a row that has one
-module _ (row : ℕ) (some : 0 < row) (fits : row < 2 ^ 64) where
-  pub lowest-has : has (lowest row) row ≡ true
-  lowest-has = (lowest_least row).passes (omega (arith, lowest-place row some fits))
+module _ (row : ℕ) (p : List ℕ) where
+  pub children-lowest : (i : ℕ) → i ≡ lowest row → i < 64 → children row p ≡ children (left row (joined 0 i)) p ++ (snoc p i ∷ [])
+  children-lowest i first place =
+      offered_low 64 row i p (lowest-there row i first place) (λ j h. (lowest_least row).below j (omega arith) (omega arith)) place place
 
-  pub children-lowest : (p : List ℕ) → children row p ≡ children (left row (joined 0 (lowest row))) p ++ (snoc p (lowest row) ∷ [])
-  children-lowest p =
-      let low = lowest-place row some fits in
-      offered_low 64 row (lowest row) p lowest-has (λ j h. (lowest_least row).below j (omega arith) h) low low
+  -- a row with no lowest place has no children
+  pub children-none : 64 ≤ lowest row → children row p ≡ []
+  unfolding offered
+  children-none h = ap (map (snoc p)) (keep-none (λ j. has j row) 64 (λ j k. (lowest_least row).below j (omega arith) (omega arith)))
 
 -- a row with no place from n on has no children from n on
 pub offered_wide : (m n row : ℕ) (p : List ℕ) → n ≤ m → ((j : ℕ) → n ≤ j → has j row ≡ false) → offered m row p ≡ offered n row p

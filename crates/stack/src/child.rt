@@ -8,7 +8,7 @@ ghost use Rattle.stack.specs.Stacked.{places_in, children, laid};
 use crate::records::push;
 use places::BundlePlace;
 use reply::Path;
-use rows::{lowest, with, without};
+use rows::each;
 
 // A path and then place i.
 pub(crate) fn child(path: Path, i: u8) -> Path
@@ -31,12 +31,9 @@ pub(crate) fn spread(records: &mut [Path], at: usize, path: Path, row: u64) -> u
     ensures laid { records.new ≡ laid at (children row (places_in path)) records.old }
 {
     let mut top = at;
-    let mut rest = row;
-    while rest != 0 {
-        let i = lowest(rest);
+    for i in each(row) {
         push(records, top, child(path, i));
         top += 1;
-        rest = without(rest, with(0, i));
     }
     top
 }
