@@ -23,7 +23,8 @@ impl<const MOST: usize> Certificates<MOST> {
         min(self.count as usize, MOST) as u8
     }
 
-    // The record at a place; the one of nothing but zeros where there is no such place.
+    // The record at a place; the one of nothing but zeros where there is no such place, and no Option: `record_of` says so, by which issuing
+    // and policy speak.
     #[tactic(auto, unfolding(crate::specs::Certificates::record_of))]
     pub fn nth(&self, place: u8) -> Record
         ensures { result ≡ record_of self.now.count self.now.records place }

@@ -4,7 +4,7 @@ ghost use Rattle.std.specs.Prelude.{◌≡◌};
 use places::BundlePlace;
 use reply::{Answer, Reply};
 
-// The reply's number, root and steps, and the path beside it: its length and its places, 0 past them.
+// The reply's number, root and steps, and the path beside it: its length and its places, 0 past them, as C has them (`savuneco_answer`).
 #[repr(C)]
 #[derive(Clone, Copy)]
 pub struct Plain {

@@ -8,8 +8,8 @@ ghost use Rattle.marks.specs.Marks.{mark_at};
 use places::BundlePlace;
 use reply::{Answer, Path};
 
-// A length and as many places as a path has; a fresh one has length 0. Places past the length are not read. It is no Path, since to C
-// they will be two structs (docs/unfinished, savuneco_mark and savuneco_path).
+// A length and as many places as a path has; a fresh one has length 0. Places past the length are not read. It is no `Path`: of
+// that the places past the length are 0.
 #[repr(C)]
 #[derive(Clone, Copy)]
 pub struct Mark {

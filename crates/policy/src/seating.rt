@@ -56,7 +56,7 @@ pub fn seats_in(rows: &mut [u64; Seats::ROWS], judged: Judged, after: u8)
 }
 
 // Fills the rows of a kind, which begin at `from`, and leaves the others as they are. Each function below hands its arguments to the next, so
-// that a struct of them would only be taken apart again.
+// that a struct of them would only be taken apart again. What is asked of a kind is no invariant of it: `seats_of` takes any.
 fn fill_from<const MOST: usize>(rows: &mut [u64], from: usize, last: usize, kind: &Sound<MOST>)
     requires empty { Empty from rows.old × (last < bundle_most) }
     requires limited { Limited kind.now.sound kind.now.limits }

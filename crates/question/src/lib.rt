@@ -28,7 +28,7 @@ pub fn pose(file: &[u8], time: Option<Time>) -> Result<Question, Fault>
     Ok(put(file, time, read(file)?))
 }
 
-// The question of a card, whose certificates stand in the file.
+// The question of a card, whose certificates stand in the file. File and time are handed on once, so that no struct has them.
 #[tactic(auto, unfolding(crate::specs::Question::question_of))]
 fn put(file: &[u8], time: Option<Time>, card: Card) -> Question
     ensures { result ≡ question_of file.now time card }

@@ -1,5 +1,4 @@
--- What stands where nothing was read: of a record, and of each group of its parts. Of lists of records:
--- certificates/specs/Certificates.antt; of a whole card: `fresh_card` of card/specs/Card.antt.
+-- What stands where nothing was read: of a record, and of each group of its parts.
 use Rattle.fields.specs.Spans.{nowhere}
 use Rattle.fields.specs.declared.run.Run.{Run}
 use Rattle.extensions.specs.declared.KeyIds.{KeyIds}

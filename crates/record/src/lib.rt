@@ -53,7 +53,7 @@ impl Record {
         Record::default()
     }
 
-    // A record by its places. No card file has so many bytes that a place wraps.
+    // A record by its places. A place that does not fit wraps, as `record_p` says; no card file has so many bytes.
     fn placed(start: usize, issuer: usize, subject: usize, rest: usize) -> Record
         ensures { result ≡ placed start issuer subject rest }
     {

@@ -5,7 +5,7 @@ ghost use Rattle.reply.specs.Answer.{path_shown};
 
 use places::BundlePlace;
 
-// A path's places, the leaf first; places past its length are 0.
+// A path's places, the leaf first; places past its length are 0. An array with its length beside: it is what C has (`savuneco_path`).
 #[repr(C)]
 #[derive(Clone, Copy)]
 pub struct Path {

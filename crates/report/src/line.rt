@@ -5,7 +5,8 @@ ghost use Rattle.report.specs.Text.{decimal};
 
 use places::BundlePlace;
 
-// Bytes, zeros past them, and how many they are: an array and its length, since nothing is allocated.
+// Bytes, zeros past them, and how many they are: an array and its length, since nothing is allocated. That it shows a line is said of each
+// function below, and is no invariant: the fields are public, and whoever makes a line may put anything there.
 #[derive(Clone, Copy)]
 pub struct Line {
     pub bytes: [u8; Line::MOST],

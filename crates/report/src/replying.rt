@@ -8,8 +8,7 @@ use reply::Slot;
 use search::search;
 
 // The room that a search is lent here.
-#[derive(Clone, Copy)]
-pub struct Room {}
+pub struct Room;
 
 impl Room {
     // Always enough: what a full bundle needs.

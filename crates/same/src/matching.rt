@@ -23,7 +23,8 @@ impl Pair<'_> {
         self.matches_walk(a, b, right)
     }
 
-    // Where the RDN a on the left ends, beside the end of the RDN b on the right, if each attribute of a has a match in b.
+    // Where the RDN a on the left ends, beside the end of the RDN b on the right, if each attribute of a has a match in b. No `rdns_walk`: one
+    // row is walked and the other searched.
     fn matches_walk(self, a: Run, b: Run, right: usize) -> Option<(usize, usize)>
         ensures { result ≡ walk (matched self.entry.normalise)
             (many attr_p a.count self.entry.left.now a.first)

@@ -11,7 +11,7 @@ use crate::Pair;
 use fields::{Fault, Thing, whole};
 use names::{Attribute, Name, Rdn};
 
-// A relation's answer as a number: 0 is no, 1 is yes, else the fault's number.
+// A relation's answer as a number: 0 is no, 1 is yes, else the fault's number. No `From`, since neither type is of this crate.
 pub fn number(related: Result<bool, Fault>) -> u8
     ensures { result ≡ said related }
 {

@@ -14,7 +14,7 @@ use names::{Attribute, attribute_at, name_begins, rdn_begins};
 use text::equal;
 
 // Whether the name at a span of a file is the same as the one at another, in that direction: the same bytes are, and where they differ both
-// are walked once.
+// are walked once. It takes the file once and no `Pair`, which issuing would make for each question.
 pub fn same_names(file: &[u8], a: Span, b: Span, normalise: bool) -> bool
     ensures { result ≡ same_names normalise a b file.now }
 {

@@ -1,5 +1,5 @@
 // The checker: finds the first path of a card file that reaches a root under the policy, in lent room. Every file, budget and room gets an
-// answer. The two functions differ in the one of steps that they call and in its budget; one of both would take that line as a closure.
+// answer. The two functions promise two definitions, `Search` and `Pause`; one of both would need a third that is the one or the other.
 #![tactic(auto)]
 
 ghost use Rattle.card.specs.Content.{content_p};

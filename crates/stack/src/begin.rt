@@ -18,7 +18,7 @@ pub(crate) struct Terms {
     pub(crate) leaves: bool,
 }
 
-// Who issued whom, who may stand where, and what is asked.
+// Who issued whom, who may stand where, and what is asked. The arrays stand each by itself, as a `Ground` lends them.
 #[derive(Clone, Copy)]
 pub(crate) struct Begun {
     pub(crate) rows: [u64; BundlePlace::MOST],
@@ -28,7 +28,7 @@ pub(crate) struct Begun {
 }
 
 // The search of a file in so many records: a paused run with this budget, or else the search with the file's own budget. Where there is
-// no search, the number of what stands in its way.
+// no search, the number of what stands in its way: an error is answered by its number (`Reply::Error`), and a fault and a lack become one.
 pub(crate) fn begin(file: &[u8], count: usize, paused: Option<u64>) -> Result<Begun, u8>
     requires { slot_bytes * count < 2 ^ 63 }
     ensures ok { IfOk result (Leads count (Ran paused (content_p file.now))) }
@@ -45,6 +45,7 @@ fn begin_over(question: Question, count: usize, paused: Option<u64>) -> Result<B
 {
     let n = question.size;
     room_for(n, Slot::BYTES * count)?;
+    // In variables: the borrow checker's part of the proof covers no array field that is put straight into a literal.
     let judged = question.judged;
     let issuing = judged.issuing;
     let rows = issuing.bundle;

@@ -10,7 +10,7 @@ use places::BundlePlace;
 use reply::Path;
 use rows::each;
 
-// A path and then place i.
+// A path and then place i. That a path shows places is asked here and below, and is no invariant of `Path`: C lends records of any bytes.
 pub(crate) fn child(path: Path, i: u8) -> Path
     requires shown { path ≡ path_shown (places_in path) }
     requires short { length (places_in path) < bundle_most }

@@ -42,7 +42,7 @@ fn search(records: &mut [Path], ground: Ground<'_>, terms: Terms) -> Answer
     end.answer
 }
 
-// Where a search is over: the answer, and how many paths wait in the first records.
+// Where a search is over: the answer, and how many paths wait in the first records, which are lent and as many as they are.
 #[derive(Clone, Copy)]
 pub(crate) struct End {
     pub(crate) answer: Answer,

@@ -29,7 +29,8 @@ pub(crate) fn clear(records: &mut [Path], a: usize, e: usize)
     }
 }
 
-// Each record has as many places as a path has. That is what its type says; here it is told of records that are lent, and nothing is done.
+// Each record has as many places as a path has. That is what its type says; here it is told of records that are lent, and nothing is done,
+// since no proof could read it off the type of a slice of structs.
 pub(crate) fn whole(records: &[Path])
     ensures { Whole records.now }
 {

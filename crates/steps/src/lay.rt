@@ -24,7 +24,8 @@ fn put_child(room: &mut [u8], t: usize, s: [u8; Slot::BYTES], i: u8)
     room[Slot::BYTES * t] = s[0] + 1;
 }
 
-// Lays the children of s's path by the places of a row in the slots from m on, and returns how many slots are then in use.
+// Lays the children of s's path by the places of a row in the slots from m on, and returns how many slots are then in use. By number, since
+// those are laid that are below n, and the row may have more.
 fn lay_row(room: &mut [u8], m: usize, s: [u8; Slot::BYTES], row: u64, n: u8) -> usize
     requires s_value { (s ≡ slot_of (path_of s)) × (length (path_of s) < bundle_most) }
     requires s_in_bounds { slot_bytes * (m + length (offered n row (path_of s))) ≤ length room.old }

@@ -1,5 +1,6 @@
 // The search over a question: it finds the first path that reaches a root under the policy, and what then waits is left in lent room. The
-// card file is left to others. The two functions share the refusal and the run; one that handed out both would be no shorter.
+// card file is left to others. The two functions promise two definitions, `Searched` and `Paused`; one of both would need a third that is the
+// one or the other, for the three lines that they share.
 #![tactic(auto)]
 
 mod lay;

@@ -30,7 +30,8 @@ pub(crate) struct Depths {
     pub(crate) depth: usize,
 }
 
-// Where a walk stopped: its reply, the path beside it as the first so many places, and what waits at so many depths.
+// Where a walk stopped: its reply, the path beside it as the first so many places, and what waits at so many depths. Two lengths of one array,
+// since the path may be shorter than what waits.
 #[derive(Clone, Copy)]
 pub(crate) struct End {
     pub(crate) reply: Reply,
@@ -98,7 +99,8 @@ fn onward(level: Level, i: u8, standing: Standing, next: u64) -> Level
     }
 }
 
-// The walk from where it stands on. Its depth and its level stand apart from the arrays, so that a step finds them in registers.
+// The walk from where it stands on. Its depth and its level stand apart from the arrays, so that a step finds them in registers. The loop counts
+// nothing: each turn goes a depth down or up, or stays.
 pub(crate) fn walk(from: Depths, n: u8, ground: Ground, budget: u64) -> End
     requires { (n ≤ bundle_most) × Ready (places_by ground.rows.now n) ground.seats.now from }
     ensures { Stopped (places_by ground.entry.rows.now n) (Ends (places_by ground.entry.rows.now n) (roots_seated ground.entry.roots.now ground.entry.seats.now) budget (stack_of n from)) (stack_of n from) result }

@@ -11,7 +11,8 @@ pub fn lower(b: u8) -> u8
     b.to_ascii_lowercase()
 }
 
-// A byte as it is compared: lowered where that is asked. In place of the flag a closure would want a ghost that says what it computes.
+// A byte as it is compared: lowered where that is asked. A flag, since it is asked in this one place; a const parameter would make
+// every function above it two.
 fn lower_if(b: u8, lowering: bool) -> u8
     ensures { result ≡ lowered_if lowering b }
 {

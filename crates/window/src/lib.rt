@@ -13,7 +13,7 @@ use std::rt::Files;
 pub fn serve<R: Env + Files + Input + Print, E: Print>(rt: &R, errors: &E) {
     let terminal = Terminal { rt, errors };
     if !terminal.answer_argument(1) {
-        terminal.answer(&mut rt.reader(), b"");
+        terminal.answer(&mut rt.reader(), None);
         return;
     }
     for i in 2..usize::MAX {
@@ -35,9 +35,10 @@ impl<'a, R: Env + Files + Input + Print, E: Print> Terminal<'a, R, E> {
     fn answer_argument(&self, i: usize) -> bool {
         let mut word = [0u8; 4096];
         match self.rt.arg(i, &mut word) {
-            Ok(0) | Err(FillError::TooLong) => {
-                self.complain(b"a name", b" is empty or has more than 4,096 bytes\n")
-            }
+            Ok(0) | Err(FillError::TooLong) => self.complain(
+                Some(b"a name"),
+                b" is empty or has more than 4,096 bytes\n",
+            ),
             Ok(n) => self.answer_named(&word[..n]),
             Err(FillError::NotPresent) => return false,
         }
@@ -46,11 +47,11 @@ impl<'a, R: Env + Files + Input + Print, E: Print> Terminal<'a, R, E> {
 
     fn answer_named(&self, name: &[u8]) {
         if let b"-" = name {
-            return self.answer(&mut self.rt.reader(), name);
+            return self.answer(&mut self.rt.reader(), Some(name));
         }
         match open(self.rt, name) {
-            Ok(mut file) => self.answer(&mut file, name),
-            Err(_) => self.complain(name, b" can't be opened\n"),
+            Ok(mut file) => self.answer(&mut file, Some(name)),
+            Err(_) => self.complain(Some(name), b" can't be opened\n"),
         }
     }
 }
@@ -58,7 +59,7 @@ impl<'a, R: Env + Files + Input + Print, E: Print> Terminal<'a, R, E> {
 impl<'a, R: Print, E: Print> Terminal<'a, R, E> {
     // Reads a card file and writes its line, behind the name where there is one. The buffer holds one byte more than a card file can have, so
     // that a file that is too long is seen.
-    fn answer<F: Read>(&self, reader: &mut F, name: &[u8]) {
+    fn answer<F: Read>(&self, reader: &mut F, name: Option<&[u8]>) {
         let mut file = [0u8; 65536];
         match fill(reader, &mut file) {
             Ok(n) => self.reply(name, &file[..n]),
@@ -66,14 +67,14 @@ impl<'a, R: Print, E: Print> Terminal<'a, R, E> {
         }
     }
 
-    fn reply(&self, name: &[u8], file: &[u8]) {
+    fn reply(&self, name: Option<&[u8]>, file: &[u8]) {
         if self.say(name, reply_to(file).as_slice()).is_err() {
-            self.complain(b"the line", b" can't be written\n");
+            self.complain(Some(b"the line"), b" can't be written\n");
         }
     }
 
-    fn say(&self, name: &[u8], line: &[u8]) -> Result<()> {
-        if !name.is_empty() {
+    fn say(&self, name: Option<&[u8]>, line: &[u8]) -> Result<()> {
+        if let Some(name) = name {
             self.rt.write_all(name)?;
             self.rt.write_all(b" ")?;
         }
@@ -81,12 +82,9 @@ impl<'a, R: Print, E: Print> Terminal<'a, R, E> {
     }
 
     // Where there is no name, standard input is meant. A message that can't be written is lost.
-    fn complain(&self, what: &[u8], why: &[u8]) {
+    fn complain(&self, what: Option<&[u8]>, why: &[u8]) {
         let _ = self.errors.write_all(b"terminal: ");
-        if what.is_empty() {
-            let _ = self.errors.write_all(b"standard input");
-        }
-        let _ = self.errors.write_all(what);
+        let _ = self.errors.write_all(what.unwrap_or(b"standard input"));
         let _ = self.errors.write_all(why);
     }
 }
