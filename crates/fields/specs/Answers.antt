@@ -1,4 +1,5 @@
--- What an answer stands for: the paper's number of a fault, and what was read with the place past it. What a reader must find: Fields.antt and Spans.antt; that no two answers say the same: proofs/Pinned.antt.
+-- What an answer stands for: the paper's number of a fault, and what was read with the place past it. What a reader must find: Fields.antt and
+-- Spans.antt; that no two answers say the same: proofs/Pinned.antt.
 use Rattle.std.specs.Prelude.{ℕ, Result, Ok, Err}
 use Rattle.fields.specs.Fields.{Parsed, got, stop}
 use Rattle.fields.specs.declared.fault.Fault.{Fault}
