@@ -22,7 +22,8 @@ impl Bundle {
     }
 }
 
-// The bundle at a place.
+// The bundle at a place. Inlined as `certificates_at` is.
+#[inline]
 pub fn bundle_at(file: &[u8], at: usize) -> Reading<Bundle>
     ensures { read result ≡ bundle_p file.now at }
 {

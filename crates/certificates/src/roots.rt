@@ -22,7 +22,8 @@ impl Roots {
     }
 }
 
-// The roots at a place.
+// The roots at a place. Inlined as `certificates_at` is.
+#[inline]
 pub fn roots_at(file: &[u8], at: usize) -> Reading<Roots>
     ensures { read result ≡ roots_p file.now at }
 {
