@@ -32,8 +32,7 @@ impl Card {
     pub const EDITION: usize = 1;
 }
 
-// A file's card, or the first fault from left to right, and then nothing of what was read before it. Inlined as `certificates_at` is.
-#[inline]
+// A file's card, or the first fault from left to right, and then nothing of what was read before it.
 #[tactic(auto, unfolding(crate::specs::Card::file_p, fields::specs::Fields::whole))]
 pub fn read(file: &[u8]) -> Result<Card, Fault>
     ensures { numbered result ≡ handed (file_p file.now) }
@@ -48,8 +47,7 @@ pub fn read(file: &[u8]) -> Result<Card, Fault>
     Ok(card)
 }
 
-// The sections at a place, in their order. Inlined as `certificates_at` is.
-#[inline]
+// The sections at a place, in their order.
 #[tactic(auto, unfolding(crate::specs::Card::card_p))]
 fn card_at(file: &[u8], at: usize) -> Reading<Card>
     ensures { read result ≡ card_p file.now at }

@@ -22,8 +22,7 @@ impl Bundle {
     }
 }
 
-// The bundle at a place. Inlined as `certificates_at` is.
-#[inline]
+// The bundle at a place.
 pub fn bundle_at(file: &[u8], at: usize) -> Reading<Bundle>
     ensures { read result ≡ bundle_p file.now at }
 {

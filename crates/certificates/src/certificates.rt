@@ -36,8 +36,7 @@ impl<const MOST: usize> Certificates<MOST> {
     }
 }
 
-// The certificates at a place. Inlined, so that what is read is not copied from answer to answer.
-#[inline]
+// The certificates at a place.
 #[tactic(auto, unfolding(crate::specs::Certificates::certificates_p, fields::specs::Fields::counted_p))]
 pub(crate) fn certificates_at<const MOST: usize>(
     file: &[u8],

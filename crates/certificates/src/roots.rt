@@ -22,8 +22,7 @@ impl Roots {
     }
 }
 
-// The roots at a place. Inlined as `certificates_at` is.
-#[inline]
+// The roots at a place.
 pub fn roots_at(file: &[u8], at: usize) -> Reading<Roots>
     ensures { read result ≡ roots_p file.now at }
 {

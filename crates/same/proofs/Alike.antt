@@ -1,8 +1,8 @@
--- Two bytes compared lowered, in the order of `alike`: equal ones (`equal_bytes`), and of two others only the smaller can be a capital that
--- lowered becomes the other (`first_less`, `second_less`). Two tests for equality that come to the same: `tests_agree`. A byte lowered:
+-- Two bytes that differ compared lowered, in the order of `alike`: only the smaller can be a capital that lowered becomes the other
+-- (`first_less`, `second_less`). Two tests for equality that come to the same: `tests_agree`. A byte lowered:
 -- text/specs/Bytes.antt.
 use Prim.Native.Nat.{ℕ, ◌+◌, ◌<◌, ◌≤◌}
-use mathlib.Core.Path.{◌≡◌, refl, sym, ap, ◌∙◌}
+use mathlib.Core.Path.{◌≡◌, refl, sym, ◌∙◌}
 use mathlib.Core.Bool.{Bool, true, false, cond, ◌&&◌}
 use mathlib.Core.Logic.{◌⊎◌, inl, inr}
 use native.Mathlib.Omega.{arith}
@@ -29,9 +29,6 @@ lowers b = go (leb 65 b && leb b 90) refl where
   go true e =
       let both = (both_true (leb 65 b) (leb b 90)).0 e in
       inr (refl, leb-true 65 b both.0, leb-true b 90 both.1)
-
-pub equal_bytes : (x y : ℕ) → x ≡ y → true ≡ eqb (lowered x) (lowered y)
-equal_bytes x y e = sym (eq-eqb _ _ (ap lowered e))
 
 pub first_less : (x y : ℕ) → x < y → eqb (lowered x) y ≡ eqb (lowered x) (lowered y)
 first_less x y h = go (lowers y) (lowers x) where

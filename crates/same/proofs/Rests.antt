@@ -16,6 +16,7 @@ use Rattle.text.proofs.NormalFrom.{normal_from}
 use Rattle.text.proofs.Lowering.{lowered_sign}
 use Rattle.text.proofs.Same.{differ}
 use Rattle.same.specs.Values.{together, spaces}
+use Rattle.same.proofs.Counts.{space_more}
 
 -- what a form goes on with inside a word
 abbrev pub rest : List ℕ → List ℕ
@@ -37,8 +38,7 @@ module _ (b : ℕ) (l : List ℕ) where
   from_byte nw ws e = rw e
 
   past_space : eqb b 32 ≡ true → past (b ∷ l) ≡ past l
-  unfolding spaces
-  past_space e = rw e
+  past_space e = rw (space_more b l e)
 
   past_byte : eqb b 32 ≡ false → past (b ∷ l) ≡ b ∷ l
   unfolding spaces
@@ -99,7 +99,7 @@ module _ (x y : ℕ) (a b : List ℕ) where
   goes = go (eqb x 32) refl (eqb (lowered x) (lowered y)) refl where
     go : (t : Bool) → eqb x 32 ≡ t → (u : Bool) → eqb (lowered x) (lowered y) ≡ u → Goes
     go true e u f = inr (rw e, λ n. absurd (false≢true (sym n ∙ e)))
-    go false e true f = inl (rw (e, f), e, f)
+    go false e true f = inl (rw (e, f) (omega arith), e, f)
     go false e false f = inr (rw (e, f), λ n. f)
 
   -- bytes that are the same lowered are both spaces or neither
@@ -134,7 +134,7 @@ none_left nw ws [] e = refl
 none_left nw ws (b ∷ l) e = go (none_left nw true l) (eqb b 32) refl where
   go : (spaces l ≡ length l → normal_from nw true l ≡ []) → (t : Bool) → eqb b 32 ≡ t → normal_from nw ws (b ∷ l) ≡ []
   go h true f =
-      let q : suc (spaces l) ≡ suc (length l) = rw f at e in
+      let q = space_more b l f in
       from_space b l nw ws f ∙ h (omega arith)
   go h false f =
       let q : 0 ≡ suc (length l) = rw f at e in
@@ -149,7 +149,7 @@ unfolding spaces normal_from
 only-spaces nw ws [] e = refl
 only-spaces nw ws (b ∷ l) e = go (only-spaces nw true l) (eqb b 32) refl where
   go : (normal_from nw true l ≡ [] → spaces l ≡ length l) → (t : Bool) → eqb b 32 ≡ t → spaces (b ∷ l) ≡ length (b ∷ l)
-  go h true f = rw f (ap suc (h (sym (from_space b l nw ws f) ∙ e)))
+  go h true f = space_more b l f ∙ ap suc (h (sym (from_space b l nw ws f) ∙ e))
   go h false f = absurd (some_left (nw && ws) (lowered b) (rest l) (sym (from_byte b l nw ws f) ∙ e))
 
 -- the first has only spaces left: so must the second
@@ -180,7 +180,7 @@ module _ (b : ℕ) (l : List ℕ) where
   unfolding spaces
   not_a_space e = go (eqb b 32) refl where
     go : (t : Bool) → eqb b 32 ≡ t → t ≡ false
-    go true f = let q : suc (spaces l) ≡ 0 = rw f at e in absurd (omega arith)
+    go true f = let q = space_more b l f in absurd (omega arith)
     go false f = refl
 
 module _ (x y : ℕ) (a b : List ℕ) where

@@ -34,8 +34,7 @@ impl Task {
     pub const SERVER: usize = 0;
 }
 
-// The task at a place. Inlined as `certificates_at` is.
-#[inline]
+// The task at a place.
 #[tactic(auto, unfolding(crate::specs::Placed::task_p))]
 pub fn task_at(file: &[u8], at: usize) -> Reading<Task>
     ensures { read result ≡ task_p file.now at }

@@ -64,8 +64,7 @@ fn signed_at(verdicts: Verdicts, file: &[u8], row: usize, column: usize) -> bool
             .is_some_and(|verdict| *verdict as usize == Verdicts::YES)
 }
 
-// The verdicts on so many roots and so large a bundle. Inlined as `certificates_at` is.
-#[inline]
+// The verdicts on so many roots and so large a bundle.
 #[tactic(auto, using(crate::proofs::Product::begins_within), unfolding(crate::specs::Grid::grid_p))]
 pub fn verdicts_at(file: &[u8], at: usize, roots: u8, bundle: u8) -> Reading<Verdicts>
     ensures { read result ≡ grid_p roots bundle file.now at }

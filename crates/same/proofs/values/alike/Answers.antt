@@ -1,10 +1,7 @@
 -- `alike` meets its contract: equal bytes are alike, and of others the smaller is lowered.
 use native.Mathlib.Omega.{arith}
-use Rattle.same.proofs.Alike.{equal_bytes, first_less, second_less}
+use Rattle.same.proofs.Alike.{first_less, second_less}
 use Rattle.same.proofs.values.alike.Goals as goal
-
-pub returns-then-x-y : goal.returns-then-x-y
-returns-then-x-y c = equal_bytes _ _ c.if-x-y.true
 
 pub returns-then-x-y-2 : goal.returns-then-x-y-2
 returns-then-x-y-2 c = rw c.lower.ensures (first_less _ _ (omega arith))

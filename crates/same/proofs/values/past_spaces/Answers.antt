@@ -1,19 +1,15 @@
--- `past_spaces` meets its contract. The loop's invariant: the spaces end where they end from the place that is looked at. The measure is
--- what is left of the string.
-use mathlib.Core.Path.{refl, sym, ◌∙◌}
-use Rattle.same.proofs.Counts.{space_on, no_space, no_more}
+-- `past_spaces` meets its contract: the spaces are the bytes that are taken.
+use Rattle.std.proofs.Common.{rules, tests, eqb, ◌∙◌}
+use Rattle.std.proofs.lemmas.Iterator.{YieldsList-from_slice}
+use Rattle.std.proofs.lemmas.Iterator.Consumers.{count_from_yields_List}
+use Rattle.std.proofs.lemmas.Iterator.Search.{YieldsList-from_take_while}
+use Rattle.text.proofs.Same.{tail}
+use Rattle.same.proofs.Counts.{spaces_taken}
 use Rattle.same.proofs.values.past_spaces.Goals as goal
 
-pub loop-i-init : goal.loop-i-init
-loop-i-init c = refl
-
-pub loop-i-preserved : goal.loop-i-preserved
-loop-i-preserved c =
-    c.loop-i.invariant ∙ space_on _ _ c.loop-i-test.true c.if-s-i-eq32.true
-
-pub returns-else-s-i-eq32 : goal.returns-else-s-i-eq32
-returns-else-s-i-eq32 c =
-    sym (c.loop-i.invariant ∙ no_space _ _ c.loop-i-test.true c.if-s-i-eq32.false)
-
-pub returns-after-loop-i : goal.returns-after-loop-i
-returns-after-loop-i c = sym (c.loop-i.invariant ∙ no_more _ _ c.loop-i-test.false)
+pub returns : goal.returns
+returns c =
+    let count =
+    count_from_yields_List c.take_while.result _ c.count-n.ensures.ran
+    (YieldsList-from_take_while _ (λ b. eqb b 32) (YieldsList-from_slice c.args.s.now (cc)) c.take_while.ensures.closure c.take_while.ensures.done (λ x b q k. search (rules, tests))) in
+    tail _ c.args.s.now ∙ rw (count ∙ spaces_taken c.args.s.now)

@@ -2,32 +2,38 @@
 -- what is left of the first value.
 use mathlib.Core.Path.{◌∙◌}
 use native.Mathlib.Omega.{arith}
-use borrow.Author.Tests.{ne_eqb}
-use Rattle.same.proofs.Abreast.{begins, first-within, second_within, answers_second, answers_no, next, nearer}
 use borrow.Author.Rules.{rules}
+use Rattle.same.proofs.Counts.{together_most}
+use Rattle.same.proofs.Abreast.{begins, answers_second, answers_no, next, nearer}
 use Rattle.same.proofs.values.same_normal.Goals as goal
 
-pub loop-i-init : goal.loop-i-init
-loop-i-init c = begins _ _ _ _ c.past_spaces-i.ensures c.past_spaces-j.ensures
+pub words-init : goal.words-init
+words-init c = begins _ _ _ _ c.past_spaces-x.ensures c.past_spaces-y.ensures
 
-pub overflow_add-i_end : goal.overflow_add-i_end
-overflow_add-i_end c = search (rules, first-within _ _ _ _ _ c.loop-i.invariant c.together-n.ensures)
+pub slice_bounds-x_end-count : goal.slice_bounds-x_end-count
+slice_bounds-x_end-count c = search (rules, together_most c.words.x.now c.words.y.now)
 
-pub overflow_add-j_end : goal.overflow_add-j_end
-overflow_add-j_end c = search (rules, second_within _ _ _ _ _ c.loop-i.invariant c.together-n.ensures)
+pub slice_bounds-y_end-count : goal.slice_bounds-y_end-count
+slice_bounds-y_end-count c = search (rules, together_most c.words.x.now c.words.y.now)
 
-pub returns-then-i_next-a : goal.returns-then-i_next-a
-returns-then-i_next-a c =
-    answers_second _ _ _ _ _ c.loop-i.invariant c.together-n.ensures _ _ (omega (arith, c.past_spaces-i_next.ensures)) (omega (arith, c.past_spaces-j_next.ensures)) c.if-i_next-a.true
+pub slice_bounds-x_end-start : goal.slice_bounds-x_end-start
+slice_bounds-x_end-start c = search (rules, together_most c.words.x.now c.words.y.now)
 
-pub returns-else-i_next-a : goal.returns-else-i_next-a
-returns-else-i_next-a c =
-    ne_eqb _ _ c.if-i_next-a.false ∙ answers_no _ _ _ _ _ c.loop-i.invariant c.together-n.ensures _ _ (omega (arith, c.past_spaces-i_next.ensures)) c.past_spaces-j_next.ensures c.if-i_next-a.false (grind arith)
+pub slice_bounds-y_end-start : goal.slice_bounds-y_end-start
+slice_bounds-y_end-start c = search (rules, together_most c.words.x.now c.words.y.now)
 
-pub loop-i-smaller : goal.loop-i-smaller
-loop-i-smaller c =
-    nearer _ _ _ _ _ c.loop-i.invariant c.together-n.ensures _ _ (omega (arith, c.past_spaces-i_next.ensures)) c.past_spaces-j_next.ensures (search rules)
+pub returns-then-is_empty : goal.returns-then-is_empty
+returns-then-is_empty c =
+    c.is_empty-then-is_empty.ensures ∙ answers_second _ _ _ _ c.words.invariant _ c.together-n.ensures _ _ _ _ (search rules) (search rules) c.past_spaces-x_next.ensures c.past_spaces-y_next.ensures (search rules)
 
-pub loop-i-preserved : goal.loop-i-preserved
-loop-i-preserved c =
-    next _ _ _ _ _ c.loop-i.invariant c.together-n.ensures _ _ (omega (arith, c.past_spaces-i_next.ensures)) (omega (arith, c.past_spaces-j_next.ensures)) (search rules) (search rules)
+pub returns-else-is_empty : goal.returns-else-is_empty
+returns-else-is_empty c =
+    c.if-is_empty.false ∙ answers_no _ _ _ _ c.words.invariant _ c.together-n.ensures _ _ _ _ (search rules) (search rules) c.past_spaces-x_next.ensures c.past_spaces-y_next.ensures (search rules) (grind arith)
+
+pub words-preserved : goal.words-preserved
+words-preserved c =
+    next _ _ _ _ c.words.invariant _ c.together-n.ensures _ _ _ _ (search rules) (search rules) c.past_spaces-x_next.ensures c.past_spaces-y_next.ensures (search rules) (search rules)
+
+pub words-smaller : goal.words-smaller
+words-smaller c =
+    nearer _ _ _ _ c.words.invariant _ c.together-n.ensures _ _ _ _ (search rules) (search rules) c.past_spaces-x_next.ensures c.past_spaces-y_next.ensures (search rules)
