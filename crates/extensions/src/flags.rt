@@ -3,6 +3,7 @@ ghost use Rattle.std.specs.Prelude.{◌≡◌};
 ghost use Rattle.extensions.specs.Flags.{flag};
 
 // The flags byte of a record. Its flags are numbers, and no enum: `has_flag` promises an answer for every number.
+#[derive(Clone, Copy)]
 pub struct Flags;
 
 impl Flags {

@@ -29,6 +29,7 @@ impl Thing for Usage {
 }
 
 // The usages at a place.
+#[tactic(auto, using(fields::proofs::Runs::run_by_ends))]
 pub fn usages_at(file: &[u8], at: usize) -> Reading<Run>
     ensures { read result ≡ usages_p file.now at }
 {

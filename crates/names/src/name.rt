@@ -7,6 +7,7 @@ ghost use Rattle.names.specs.Names.{Attr, name_p};
 use crate::Rdn;
 use fields::{Fault, Run, Thing, run_at};
 
+#[derive(Clone, Copy)]
 pub struct Name;
 
 impl Name {

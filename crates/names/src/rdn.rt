@@ -7,6 +7,7 @@ ghost use Rattle.names.specs.Names.{Attr, rdn_p};
 use crate::Attribute;
 use fields::{Fault, Run, Thing, run_at};
 
+#[derive(Clone, Copy)]
 pub struct Rdn;
 
 impl Rdn {

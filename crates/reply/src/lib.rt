@@ -50,6 +50,7 @@ impl Answer {
 }
 
 // A slot of the lent room: a length, then as many places as a path can have.
+#[derive(Clone, Copy)]
 pub struct Slot;
 
 impl Slot {

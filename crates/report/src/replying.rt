@@ -8,6 +8,7 @@ use reply::Slot;
 use search::search;
 
 // The room that a search is lent here.
+#[derive(Clone, Copy)]
 pub struct Room;
 
 impl Room {

@@ -10,6 +10,7 @@ ghost use Rattle.rows.specs.Rows.{has, joined, left, common, either, lowest, hig
 pub use coming::{Rising, each};
 
 // The places that a row has room for.
+#[derive(Clone, Copy)]
 pub struct Row;
 
 impl Row {

@@ -118,8 +118,9 @@ module _ (s out₀ out : List ℕ) (i n : ℕ) (gap : Bool) (h : State s out₀ 
   filled : out ≡ normal s ++ drop (length (normal s)) out₀
   filled = sym (take-append-drop n out) ∙ ap (λ l. l ++ drop n out) whole ∙ ap (λ l. normal s ++ l) h.kept ∙ ap (λ k. normal s ++ drop k out₀) (sym count)
 
-  pub done : (form_of (Some n) ≡ normalized s out₀) × (out ≡ written s out₀)
+  -- what was read is the string t
+  pub done : {t : List ℕ} → s ≡ t → (form_of (Some n) ≡ normalized t out₀) × (out ≡ written t out₀)
   unfolding normalized written
-  done =
+  done e =
       let f : ltb (length out₀) (length s) ≡ false = le-ltb _ _ h.room in
-      (rw (f, count), rw f filled)
+      rw (← e) (rw (f, count), rw f filled)

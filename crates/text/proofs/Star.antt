@@ -63,32 +63,33 @@ module _ (t : Bool) (pattern name : List ℕ) where
   unfolding match_name
   plain e = rw (low_star t pattern, e)
 
-  module _ (star : starts_with pattern star_dot ≡ true) (suffix : List ℕ) (is : suffix ≡ drop 1 pattern) where
-    long : length suffix ≡ length pattern - 1
-    long = ap length is ∙ length-drop 1 pattern
-
-    pub bare : length suffix ≤ 1 → match_name (low t pattern) (low t name) ≡ false
+  module _ (star : starts_with pattern star_dot ≡ true) where
+    pub bare : length pattern ≤ 2 → match_name (low t pattern) (low t name) ≡ false
     unfolding match_name
-    bare h = rw (low_star t pattern, star, length-map, le-ltb 2 (length pattern) (omega (arith, long)))
+    bare h = rw (low_star t pattern, star, length-map, le-ltb _ _ h)
 
-    module _ (more : 1 < length suffix) where
+    module _ (more : 2 < length pattern) where
       under : match_name (low t pattern) (low t name) ≡ under_domain (drop 2 (low t pattern)) (low t name)
       unfolding match_name
-      under = rw (low_star t pattern, star, length-map, lt-ltb 2 (length pattern) (omega (arith, long)))
+      under = rw (low_star t pattern, star, length-map, lt-ltb _ _ more)
 
       -- the tests of `match_lowering` where the star stands for a label
       tests : match_name (low t pattern) (low t name)
-          ≡ ltb (length suffix) (length name)
-          && same (low t (drop (length name - length suffix) name)) (low t suffix)
-          && not (has_byte 46 (take (length name - length suffix) name))
+          ≡ ltb (length pattern - 1) (length name)
+          && same (low t (drop (length name - (length pattern - 1)) name)) (low t (drop 1 pattern))
+          && not (has_byte 46 (take (length name - (length pattern - 1)) name))
       tests =
           let p : length (low t pattern) ≡ length pattern = simp length-map in
           let n : length (low t name) ≡ length name = simp length-map in
-          under ∙ star_upstream (low t pattern) (low t name) (low_star t pattern ∙ star) ∙ rw (p, n, ← long, drop-map (lowered_if t) _ name, drop-map (lowered_if t) 1 pattern, ← is, take-map, low_dot)
+          under ∙ star_upstream (low t pattern) (low t name) (low_star t pattern ∙ star) ∙ rw (p, n, drop-map (lowered_if t) _ name, drop-map (lowered_if t) 1 pattern, take-map, low_dot)
 
-      pub short : length name ≤ length suffix → match_name (low t pattern) (low t name) ≡ false
+      pub short : length name ≤ length pattern - 1 → match_name (low t pattern) (low t name) ≡ false
       short h = tests ∙ rw (le-ltb _ _ h)
 
-      pub labelled : length suffix < length name → match_name (low t pattern) (low t name)
-          ≡ same (low t (drop (length name - length suffix) name)) (low t suffix) && not (has_byte 46 (take (length name - length suffix) name))
-      labelled h = tests ∙ rw (lt-ltb _ _ h)
+      module _ (suffix : List ℕ) (is : suffix ≡ drop 1 pattern) where
+        long : length suffix ≡ length pattern - 1
+        long = ap length is ∙ length-drop 1 pattern
+
+        pub labelled : length pattern - 1 < length name → match_name (low t pattern) (low t name)
+            ≡ same (low t (drop (length name - length suffix) name)) (low t suffix) && not (has_byte 46 (take (length name - length suffix) name))
+        labelled h = rw (long, is) (tests ∙ rw (lt-ltb _ _ h))

@@ -4,7 +4,7 @@ ghost use Rattle.text.specs.Bytes.{lowered, same};
 ghost use Rattle.text.specs.Private.{lowered_if};
 
 // A to Z gain 32.
-#[tactic(auto, using(crate::proofs::Lowering::lowered_std))]
+#[tactic(auto, using(crate::proofs::Lowering::lowered_std), unfolding(crate::specs::Bytes::lowered))]
 pub fn lower(b: u8) -> u8
     ensures { result ≡ lowered b }
 {

@@ -28,7 +28,7 @@ fn match_lowering(pattern: &[u8], name: &[u8], lowering: bool) -> bool
         return equal_lowering(pattern, name, lowering);
     }
     let suffix = &pattern[1..];
-    if suffix.len() <= 1 || name.len() <= suffix.len() {
+    if pattern.len() <= 2 || name.len() <= suffix.len() {
         return false;
     }
     let (label, rest) = name.split_at(name.len() - suffix.len());

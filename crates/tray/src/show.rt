@@ -1,5 +1,5 @@
 // What is written of a case: its label, the terminal's line, and the room as slots. A label is bytes that need not be text.
-ghost use Rattle.std.specs.Prelude.{◌≤◌, length};
+ghost use Rattle.std.specs.Prelude.{◌≤◌, ◌≡◌, ℕ, length, drop, IfOk};
 
 use reply::{Answer, Slot};
 use report::line_of;
@@ -38,8 +38,10 @@ fn run(rt: &impl Print, bytes: &[u8], name: &str) -> Result<()> {
     print!(rt; " {} {name}", bytes.len())
 }
 
-// Writes the paths in the lowest slots; the bytes behind them.
-fn paths<'a>(rt: &impl Print, room: &'a [u8]) -> Result<&'a [u8]> {
+// Writes the paths in the lowest slots; the bytes behind them, which are the room from some place on.
+fn paths<'a>(rt: &impl Print, room: &'a [u8]) -> Result<&'a [u8]>
+    ensures { IfOk result (λ rest. (at : ℕ) × (at ≤ length room.now) × (rest.now ≡ drop at room.now)) }
+{
     let mut rest = room;
     while let Some((slot, behind)) = rest.split_at_checked(Slot::BYTES) {
         let Some(places) = path_in(slot) else { break };

@@ -1,11 +1,15 @@
--- `normalize_string` meets its contract: a law of `Form` for each arm of the loop and each return.
+-- `normalize_string` meets its contract: a law of `Form` for each arm of the loop and each return. That what the loop reads is the whole string
+-- is looked for, so that a part that is shorter is refused for what it leaves out.
+use Prim.Native.Nat.{ℕ}
 use native.Mathlib.Omega.{arith}
+use lib.Seq.{length-take-le, take_all}
+use Rattle.std.proofs.Common.{rules}
 use Rattle.text.proofs.Form.{start, space, one, two, done}
 use Rattle.text.proofs.normal.normalize_string.Goals.{then-b-eq32, else-b-eq32, then-gap, else-gap}
 use Rattle.text.proofs.normal.normalize_string.Goals as goal
 
 pub loop-b-init : goal.loop-b-init
-loop-b-init c = start _ _ (omega arith)
+loop-b-init c = start _ _ (omega (arith, length-take-le {A = ℕ}))
 
 pub loop-b-preserved : goal.loop-b-preserved
 loop-b-preserved c =
@@ -19,7 +23,7 @@ loop-b-preserved c =
     ]
 
 pub returns-clause-answer : goal.returns-clause-answer
-returns-clause-answer c = (done _ _ _ _ _ _ c.loop-b.invariant (omega arith)).0
+returns-clause-answer c = (done _ _ _ _ _ _ c.loop-b.invariant (omega arith) (search (rules, take_all))).0
 
 pub returns-clause-room : goal.returns-clause-room
-returns-clause-room c = (done _ _ _ _ _ _ c.loop-b.invariant (omega arith)).1
+returns-clause-room c = (done _ _ _ _ _ _ c.loop-b.invariant (omega arith) (search (rules, take_all))).1
