@@ -4,9 +4,10 @@
 -- faults (`content_by_card` of proofs/Values.antt); each section by itself (the specs of certificates, verdicts and task).
 use Rattle.std.specs.Prelude.{ℕ, cond, List, leb, length}
 use Rattle.fields.specs.Fields.{Parsed, got, stop, after, whole}
-use Rattle.certificates.specs.Certificates.{roots_p, bundle_p}
-use Rattle.verdicts.specs.Grid.{grid_p}
-use Rattle.task.specs.Placed.{task_p}
+use Rattle.places.specs.Limits.{roots_most, bundle_most}
+use Rattle.certificates.specs.Certificates.{roots_p, bundle_p, fresh_certificates}
+use Rattle.verdicts.specs.Grid.{grid_p, fresh-verdicts}
+use Rattle.task.specs.Placed.{task_p, fresh_task}
 use Rattle.card.specs.Content.{edition_p, file_most}
 use Rattle.card.specs.declared.Card.{Card}
 
@@ -22,3 +23,7 @@ card_p s at =
 -- not too long, and the file ends where the task ends
 unfoldable pub file_p : List ℕ → Parsed Card
 file_p s = cond (leb (length s) file_most) (whole card_p s) (stop 5)
+
+-- what stands where nothing was read
+abbrev pub fresh_card : Card
+fresh_card = record { roots = fresh_certificates roots_most; bundle = fresh_certificates bundle_most; verdicts = fresh-verdicts; task = fresh_task }

@@ -4,13 +4,13 @@
 #![tactic(auto)]
 
 ghost use Rattle.std.specs.Prelude.{◌≡◌};
-ghost use Rattle.fields.specs.Answers.{read, passed, passing, numbered, handed};
-ghost use Rattle.card.specs.Card.{card_p, file_p};
+ghost use Rattle.fields.specs.Answers.{passed, passing, held, numbered, handed};
+ghost use Rattle.card.specs.Card.{card_p, file_p, fresh_card};
 ghost use Rattle.card.specs.Content.{edition_p};
 
 pub use certificates::{Bundle, Roots};
 use certificates::{bundle_at, roots_at};
-use fields::{Fault, Reading, byte_at};
+use fields::{Fault, byte_at};
 pub use places::{BundlePlace, RootPlace};
 use task::task_at;
 pub use task::{Host, Task};
@@ -30,6 +30,34 @@ impl Card {
     pub const MOST: usize = 65535;
 
     pub const EDITION: usize = 1;
+
+    // The card before a file is read: nothing but zeros.
+    pub fn new() -> Card
+        ensures { result ≡ fresh_card }
+    {
+        Card {
+            roots: Roots::new(),
+            bundle: Bundle::new(),
+            verdicts: Verdicts::new(),
+            task: Task::new(),
+        }
+    }
+
+    // Reads the sections at a place, in their order, and tells the place past them. They are put where they stay, as a card is large to copy from
+    // answer to answer.
+    #[tactic(auto, unfolding(crate::specs::Card::card_p))]
+    fn fill(&mut self, file: &[u8], at: usize) -> Result<usize, Fault>
+        ensures { held result self.new ≡ card_p file.now at }
+    {
+        let at = edition_past(file, at)?;
+        let at = roots_at(file, at, &mut self.roots)?;
+        let at = bundle_at(file, at, &mut self.bundle)?;
+        let (verdicts, at) = verdicts_at(file, at, self.roots.count, self.bundle.count)?;
+        let (task, next) = task_at(file, at)?;
+        self.verdicts = verdicts;
+        self.task = task;
+        Ok(next)
+    }
 }
 
 // A file's card, or the first fault from left to right, and then nothing of what was read before it.
@@ -40,30 +68,12 @@ pub fn read(file: &[u8]) -> Result<Card, Fault>
     if Card::MOST < file.len() {
         return Err(Fault::TooLong);
     }
-    let (card, end) = card_at(file, 0)?;
+    let mut card = Card::new();
+    let end = card.fill(file, 0)?;
     if end < file.len() {
         return Err(Fault::LeftOver);
     }
     Ok(card)
-}
-
-// The sections at a place, in their order.
-#[tactic(auto, unfolding(crate::specs::Card::card_p))]
-fn card_at(file: &[u8], at: usize) -> Reading<Card>
-    ensures { read result ≡ card_p file.now at }
-{
-    let at = edition_past(file, at)?;
-    let (roots, at) = roots_at(file, at)?;
-    let (bundle, at) = bundle_at(file, at)?;
-    let (verdicts, at) = verdicts_at(file, at, roots.count, bundle.count)?;
-    let (task, next) = task_at(file, at)?;
-    let card = Card {
-        roots,
-        bundle,
-        verdicts,
-        task,
-    };
-    Ok((card, next))
 }
 
 // The place past the edition. One function for this and the purpose of a task would take the byte and the fault, and be as long.

@@ -16,30 +16,31 @@ use Rattle.fields.proofs.Filling.{Filling, filling_ends}
 use Rattle.record.specs.Record.{record_p}
 use Rattle.record.specs.Fresh.{fresh}
 use Rattle.record.specs.declared.Record.{Record}
-use Rattle.certificates.specs.Certificates.{filled, certificates_p, size_of, record_of}
+use Rattle.certificates.specs.Certificates.{filled, filled_certificates, size_of, record_of}
 
 -- ---- a list by its count
 
-module _ (most : ℕ) (s : List ℕ) (at : ℕ) where
-  module _ (n first : ℕ) (h : count_p 0 most s at ≡ got n first) where
+module _ (least most : ℕ) (s : List ℕ) (at : ℕ) where
+  module _ (n first : ℕ) (h : count_p least most s at ≡ got n first) where
     pub counted_few : n ≤ most
-    counted_few = (count_read 0 most s at n first h).few
+    counted_few = (count_read least most s at n first h).few
 
     -- a count that was read is a byte
     pub counted_byte : get_or s at 0 < 256 → n < 256
-    counted_byte byte = omega (arith, (count_read 0 most s at n first h).is)
+    counted_byte byte = omega (arith, (count_read least most s at n first h).is)
 
-    pub list_stops : (r : ℕ) → many record_p n s first ≡ stop r → certificates_p most s at ≡ stop r
-    unfolding certificates_p counted_p
-    list_stops r k = rw (h, k)
+    module _ (room : ℕ) where
+      pub list_stops : (r : ℕ) → many record_p n s first ≡ stop r → filled_certificates room (counted_p least most record_p s at) ≡ stop r
+      unfolding counted_p
+      list_stops r k = rw (h, k)
 
-    pub list_ends : (places : List Record) (next i : ℕ) → Filling record_p s most fresh first n places next i → n ≤ i
-        → got (record { count = n; records = places }) next ≡ certificates_p most s at
-    unfolding certificates_p counted_p filled
-    list_ends places next i f l =
-        let t = filling_ends record_p s most fresh first n places next i f l in
-        let long : length t.front ≡ n = many-length record_p s n first t.front next t.read in
-        rw (h, t.read, t.full, long)
+      pub list_ends : (places : List Record) (next i : ℕ) → Filling record_p s room fresh first n places next i → n ≤ i
+          → got (record { count = n; records = places }) next ≡ filled_certificates room (counted_p least most record_p s at)
+      unfolding counted_p filled
+      list_ends places next i f l =
+          let t = filling_ends record_p s room fresh first n places next i f l in
+          let long : length t.front ≡ n = many-length record_p s n first t.front next t.read in
+          rw (h, t.read, t.full, long)
 
 -- ---- by place
 

@@ -14,6 +14,10 @@ use Rattle.certificates.specs.declared.certificates.Certificates.{Certificates}
 unfoldable pub filled : ℕ → List Record → List Record
 filled most records = records ++ replicate (most - length records) fresh
 
+-- no certificates
+abbrev pub fresh_certificates : (most : ℕ) → Certificates most
+fresh_certificates most = record { count = 0; records = replicate most fresh }
+
 abbrev pub filled_certificates : (most : ℕ) → Parsed (List Record) → Parsed (Certificates most)
 filled_certificates most x = after x (λ l e. got (record { count = length l; records = filled most l }) e)
 

@@ -1,9 +1,11 @@
 // A list of no more than so many certificates.
-ghost use Rattle.std.specs.Prelude.{◌≡◌};
-ghost use Rattle.fields.specs.Answers.{read};
-ghost use Rattle.certificates.specs.Certificates.{certificates_p, record_of, size_of};
+ghost use Rattle.std.specs.Prelude.{◌≡◌, ◌≤◌};
+ghost use Rattle.fields.specs.Fields.{counted_p};
+ghost use Rattle.fields.specs.Answers.{held, Emptied};
+ghost use Rattle.record.specs.Record.{record_p};
+ghost use Rattle.certificates.specs.Certificates.{fresh_certificates, filled_certificates, record_of, size_of};
 
-use fields::{Reading, count_at};
+use fields::{Fault, count_at};
 use record::{Record, record_at};
 use std::cmp::min;
 
@@ -15,6 +17,16 @@ pub struct Certificates<const MOST: usize> {
 }
 
 impl<const MOST: usize> Certificates<MOST> {
+    // No certificates.
+    pub fn new() -> Self
+        ensures { result ≡ fresh_certificates MOST }
+    {
+        Certificates {
+            records: [Record::new(); MOST],
+            count: 0,
+        }
+    }
+
     // How many there are: the count, but no more than there is room for.
     #[tactic(auto, unfolding(crate::specs::Certificates::size_of))]
     pub fn size(self) -> u8
@@ -36,23 +48,44 @@ impl<const MOST: usize> Certificates<MOST> {
     }
 }
 
-// The certificates at a place.
-#[tactic(auto, unfolding(crate::specs::Certificates::certificates_p, fields::specs::Fields::counted_p))]
+// Reads the certificates at a place into a list that is lent, so that no list is copied from answer to answer, and tells the place past
+// them. With a fault the list is empty.
 pub(crate) fn certificates_at<const MOST: usize>(
     file: &[u8],
     at: usize,
-) -> Reading<Certificates<MOST>>
-    ensures { read result ≡ certificates_p MOST file.now at }
+    least: usize,
+    most: usize,
+    list: &mut Certificates<MOST>,
+) -> Result<usize, Fault>
+    requires { most ≤ MOST }
+    ensures list_value { held result list.new ≡ filled_certificates MOST (counted_p least most record_p file.now at) }
+    ensures emptied { Emptied result list.new (fresh_certificates MOST) }
 {
-    let (count, first) = count_at(file, at, 0, MOST)?;
-    let mut records = [Record::new(); MOST];
+    let past = fill(file, at, least, most, list);
+    if past.is_err() {
+        *list = Certificates::new();
+    }
+    past
+}
+
+// The same, but that with a fault the list holds what was read before it.
+#[tactic(auto, unfolding(fields::specs::Fields::counted_p))]
+fn fill<const MOST: usize>(
+    file: &[u8],
+    at: usize,
+    least: usize,
+    most: usize,
+    list: &mut Certificates<MOST>,
+) -> Result<usize, Fault>
+    requires { most ≤ MOST }
+    ensures { held result list.new ≡ filled_certificates MOST (counted_p least most record_p file.now at) }
+{
+    let (count, first) = count_at(file, at, least, most)?;
+    *list = Certificates::new();
     let mut next = first;
     for i in 0..count {
-        (records[i], next) = record_at(file, next)?;
+        (list.records[i], next) = record_at(file, next)?;
     }
-    let certificates = Certificates {
-        records,
-        count: count as u8,
-    };
-    Ok((certificates, next))
+    list.count = count as u8;
+    Ok(next)
 }

@@ -1,3 +1,3 @@
 pub mod TaskAsked
 pub mod One
-pub mod Mapped
+pub mod Numbers

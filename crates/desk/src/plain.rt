@@ -1,5 +1,6 @@
 // An answer in plain numbers.
 ghost use Rattle.std.specs.Prelude.{◌≡◌};
+ghost use Rattle.desk.specs.Plain.{numbers};
 
 use places::BundlePlace;
 use reply::{Answer, Reply};
@@ -33,7 +34,18 @@ impl From<Answer> for Plain {
             number,
             root,
             length: answer.path.length,
-            path: answer.path.places.map(|place| place.0),
+            path: numbers_of(answer.path.places),
         }
     }
+}
+
+// A path's places as bytes. By a loop, as `Path::of` of reply.
+fn numbers_of(places: [BundlePlace; BundlePlace::MOST]) -> [u8; BundlePlace::MOST]
+    ensures { result ≡ numbers places }
+{
+    let mut bytes = [0u8; BundlePlace::MOST];
+    for j in 0..BundlePlace::MOST {
+        bytes[j] = places[j].0;
+    }
+    bytes
 }

@@ -7,7 +7,7 @@ use Rattle.std.proofs.lemmas.Result.{err_from_is_err_and}
 use Rattle.std.specs.Prelude.{Result, Ok, Err}
 use Rattle.std.specs.Result.{IsErrAnd}
 use Rattle.fields.specs.Fields.{Parsed, got, stop, after}
-use Rattle.fields.specs.Answers.{number, read, spanned, begun, passed}
+use Rattle.fields.specs.Answers.{number, read, spanned, begun, passed, held}
 use Rattle.fields.specs.declared.fault.Fault.{Fault}
 use Rattle.fields.specs.declared.run.Run.{Run}
 use Rattle.fields.specs.declared.string.Span.{Span}
@@ -42,6 +42,13 @@ module _ {r : Result ℕ Fault} {x : Parsed (Unit {0})} (h : passed r ≡ x) whe
   pub passed_err : {f : Fault} → r ≡ Err f → x ≡ stop (number f)
   passed_err k = sym h ∙ ap passed k
 
+module _ {A : Type 0} {r : Result ℕ Fault} (a : A) {x : Parsed A} (h : held r a ≡ x) where
+  pub held_ok : {e : ℕ} → r ≡ Ok e → x ≡ got a e
+  held_ok k = sym h ∙ ap (λ q. held q a) k
+
+  pub held_err : {f : Fault} → r ≡ Err f → x ≡ stop (number f)
+  held_err k = sym h ∙ ap (λ q. held q a) k
+
 -- ---- what `?` answers with a fault
 
 asked : {A B : Type 0} (says : Result A Fault → Parsed B) (r : Result A Fault) (f : Fault) {x : Parsed B} → IsErrAnd r (λ g. g ≡ f) → x ≡ says (Err f) → says r ≡ x
@@ -58,6 +65,9 @@ begun_asked r f e h = asked begun r f e h
 
 pub passed_asked : (r : Result ℕ Fault) (f : Fault) {x : Parsed (Unit {0})} → IsErrAnd r (λ g. g ≡ f) → x ≡ stop (number f) → passed r ≡ x
 passed_asked r f e h = asked passed r f e h
+
+pub held_asked : {A : Type 0} (a : A) (r : Result ℕ Fault) (f : Fault) {x : Parsed A} → IsErrAnd r (λ g. g ≡ f) → x ≡ stop (number f) → held r a ≡ x
+held_asked a r f e h = asked (λ q. held q a) r f e h
 
 -- ---- what is read next
 

@@ -1,12 +1,12 @@
 -- No two answers say the same: what an answer stands for pins the answer down, since a fault is found again from its number. `pins`,
--- `fault_of` and `fault_again` are for the Pinned.antt of the crates above. What the answers stand for: specs/Answers.antt.
+-- `fault_of`, `fault_again` and `held_pins` are for the Pinned.antt of the crates above. What the answers stand for: specs/Answers.antt.
 use Prim.Native.Nat.{ℕ}
-use mathlib.Core.Path.{◌≡◌, refl, sym, ap, ◌∙◌}
+use mathlib.Core.Path.{◌≡◌, refl, sym, ap, ap₂, ◌∙◌}
 use mathlib.Core.Bool.{cond}
 use lib.Dec.{eqb}
 use Rattle.std.specs.Prelude.{Result, Ok, Err}
 use Rattle.fields.specs.Fields.{Parsed, got, stop}
-use Rattle.fields.specs.Answers.{number, read, spanned, begun, passed, numbered}
+use Rattle.fields.specs.Answers.{number, read, spanned, begun, passed, held, Emptied, numbered}
 use Rattle.fields.specs.declared.fault.Fault.{Fault}
 use Rattle.fields.specs.declared.fault.Fault.TheVariants.{UnknownEdition, TooLong, CutShort, BadCount, BadValue, LeftOver}
 use Rattle.fields.specs.declared.run.Run.{Run}
@@ -93,3 +93,15 @@ numbered_pins {A} = pins numbered back again
     again : (a : Result A Fault) → back (numbered a) ≡ a
     again (Ok a) = refl
     again (Err f) = ap Err (fault_again f)
+
+pub held_pins : {A : Type 0} (none : A) (p q : Result ℕ Fault) (a b : A) → Emptied p a none → Emptied q b none → held p a ≡ held q b
+    → ◌≡◌ {A = Result ℕ Fault × A} (p, a) (q, b)
+held_pins {A = A} none p q a b x y h = sym (again p a x) ∙ ap back h ∙ again q b y
+  where
+    back : Parsed A → Result ℕ Fault × A
+    back (got v e) = (Ok e, v)
+    back (stop r) = (Err (fault_of r), none)
+
+    again : (p : Result ℕ Fault) (a : A) → Emptied p a none → back (held p a) ≡ (p, a)
+    again (Ok e) a x = refl
+    again (Err f) a x = ap₂ (λ g v. (Err g, v)) (fault_again f) (sym x)

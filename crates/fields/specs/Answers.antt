@@ -1,6 +1,6 @@
 -- What an answer stands for: the paper's number of a fault, and what was read with the place past it. What a reader must find: Fields.antt and
 -- Spans.antt; that no two answers say the same: proofs/Pinned.antt.
-use Rattle.std.specs.Prelude.{ℕ, Result, Ok, Err}
+use Rattle.std.specs.Prelude.{ℕ, ◌≡◌, Result, Ok, Err}
 use Rattle.fields.specs.Fields.{Parsed, got, stop}
 use Rattle.fields.specs.declared.fault.Fault.{Fault}
 use Rattle.fields.specs.declared.fault.Fault.TheVariants.{UnknownEdition, TooLong, CutShort, BadCount, BadValue, LeftOver}
@@ -39,6 +39,16 @@ passing (stop r) = stop r
 abbrev pub passed : Result ℕ Fault → Parsed (Unit {0})
 passed (Ok e) = got tt e
 passed (Err f) = stop (number f)
+
+-- a value that was lent, beside the place past it: with a fault the value says nothing
+abbrev pub held : {A : Type 0} → Result ℕ Fault → A → Parsed A
+held (Ok e) a = got a e
+held (Err f) a = stop (number f)
+
+-- with a fault, the value of nothing
+abbrev pub Emptied : {A : Type 0} → Result ℕ Fault → A → A → Type 0
+Emptied (Ok e) a none = Unit {0}
+Emptied (Err f) a none = a ≡ none
 
 -- what is left of a reading where the place past the thing is not told: the thing, or the number of the fault
 abbrev pub handed : {A : Type 0} → Parsed A → Result A ℕ

@@ -1,42 +1,52 @@
--- A path as it is handed out: `path_shown_lem` and `map_of` for `Path::of`; `take-few` for it and for the line of report.
+-- A path as it is handed out, place by place: `place-more`, `path_shown_lem` for the loop of `Path::of`; `take-few` for the line of report.
 -- What is handed out: `path_shown` of specs/Answer.antt.
 use mathlib.Core.Bool.{Bool, true, false}
-use mathlib.Core.Path.{◌≡◌, refl, sym, ◌∙◌}
-use mathlib.Core.List.{List, map, append-nil}
-use Prim.Native.Nat.{ℕ, ◌-◌, ◌≤◌, ◌<◌, min}
-use native.Mathlib.Nat.{min-eq_left, min-eq_right}
+use mathlib.Core.Path.{◌≡◌, refl, sym, ap, ◌∙◌}
+use mathlib.Core.List.{List, [], ◌∷◌, ◌++◌, map}
+use Prim.Native.Nat.{ℕ, zero, suc, ◌+◌, ◌-◌, ◌≤◌, ◌<◌, min}
+use native.Mathlib.Nat.{le_of_suc-le-suc, not-suc-le-zero, sub-zero, suc-sub-suc, min-eq_left, min-eq_right}
+use native.Mathlib.Numerals.{add-one}
 use native.Mathlib.Omega.{arith}
 use borrow.Author.Tests.{ltb-true, ltb-false}
 use lib.Dec.{ltb}
-use borrow.Rule.Slice.PartMut.{put_mid}
-use lib.ListN.{length, take, drop, replicate, length-map, length-drop, drop_of_length-le}
+use lib.ListN.{length, take, drop, get_or, set, replicate}
 use lib.Seq.{length-take-le, take_all}
-use Rattle.std.specs.Array.{IsMapOf}
-use Rattle.std.specs.Fn.{Called}
-use Rattle.std.proofs.lemmas.List.{same_lists, get_or-map}
-use denote.Param.Members.{Mut}
 use Rattle.places.specs.Limits.{bundle_most}
+use Rattle.places.specs.declared.BundlePlace.{BundlePlace}
 use Rattle.reply.specs.Answer.{path_shown}
 use Rattle.reply.specs.Numbers.{placed}
 use Rattle.reply.specs.Slots.{padded}
 
--- what `map` makes of an array, where the closure answers v
-pub map_of : {F A B : Type 0} {g : Mut F (A × Unit {0}) B} {f : F} {xs : List A} {ys : List B} {n : ℕ} (v : A → B) (a : A)
-    → IsMapOf g f xs ys n → length xs ≡ n → ((p q : F) (x : A) (y : B) → Called g p (x, tt) y q → y ≡ v x) → ys ≡ map v xs
-map_of {F} {A} {B} {g} {f} {xs} {ys} {n} v a m e h =
-    same_lists ys (map v xs) (m.long ∙ sym e ∙ sym (length-map xs v)) (λ k d l.
-    let i : k < n = omega (arith, m.long) in
-    let w = m.at k a d i in
-    h _ _ _ _ w.2 ∙ sym (get_or-map v xs k a d (omega arith)))
+place_suc : (src : List ℕ) (dst : List BundlePlace) (i : ℕ) → i < length src → i < length dst
+    → set (map placed (take i src) ++ drop i dst) i (placed (get_or src i 0)) ≡ map placed (take (suc i) src) ++ drop (suc i) dst
+place_suc [] dst i h k = absurd (not-suc-le-zero h)
+place_suc (x ∷ xs) [] i h k = absurd (not-suc-le-zero k)
+place_suc (x ∷ xs) (y ∷ ys) zero h k = refl
+place_suc (x ∷ xs) (y ∷ ys) (suc i) h k = ap (λ (l : List BundlePlace). placed x ∷ l) (place_suc xs ys i (le_of_suc-le-suc h) (le_of_suc-le-suc k))
 
--- places, and zeros from one of them on: the path of those before it
-pub path_shown_lem : (src : List ℕ) (len : ℕ) (zeros : List ℕ) → length src ≡ bundle_most → len ≤ bundle_most → zeros ≡ replicate (bundle_most - len) 0
-    → record { length = len; places = map placed (put_mid len (bundle_most - len) src zeros) } ≡ path_shown (take len src)
+-- one place more is handed out
+pub place-more : (src : List ℕ) (dst : List BundlePlace) (j : ℕ) → j < length src → j < length dst
+    → set (map placed (take j src) ++ drop j dst) j (placed (get_or src j 0)) ≡ map placed (take (j + 1) src) ++ drop (j + 1) dst
+place-more src dst j h k = rw (add-one j) (place_suc src dst j h k)
+
+zeros-after : (j n : ℕ) → drop j (replicate n (placed 0)) ≡ map placed (replicate (n - j) 0)
+zeros-after zero zero = refl
+zeros-after zero (suc n) = rw sub-zero (ap (λ (l : List BundlePlace). placed 0 ∷ l) (rw sub-zero at (zeros-after zero n)))
+zeros-after (suc j) zero = let z : 0 - suc j ≡ 0 = omega arith in rw z
+zeros-after (suc j) (suc n) = rw suc-sub-suc (zeros-after j n)
+
+map_both : (a b : List ℕ) → map placed a ++ map placed b ≡ map placed (a ++ b)
+map_both [] b = refl
+map_both (x ∷ a) b = ap (λ (l : List BundlePlace). placed x ∷ l) (map_both a b)
+
+-- all are handed out
+pub path_shown_lem : (src : List ℕ) (len : ℕ) (places : List BundlePlace) → len ≤ length src
+    → places ≡ map placed (take len src) ++ drop len (replicate bundle_most (placed 0)) → record { length = len; places = places } ≡ path_shown (take len src)
 unfolding path_shown padded
-path_shown_lem src len zeros l h e =
-    let k : length (take len src) ≡ len = length-take-le len src (omega arith) in
-    let past : length (drop len src) ≤ bundle_most - len = simp length-drop (omega arith) in
-    rw (k, e, drop_of_length-le (drop len src) past, append-nil)
+path_shown_lem src len places h e =
+    let l : length (take len src) ≡ len = length-take-le len src h in
+    rw l (ap (λ (ps : List BundlePlace). record { length = len; places = ps })
+    (e ∙ ap (λ (z : List BundlePlace). map placed (take len src) ++ z) (zeros-after len bundle_most) ∙ map_both (take len src) (replicate (bundle_most - len) 0)))
 
 -- of n things no more than n can be taken
 pub take-few : {A : Type 0} (n : ℕ) (k : ℕ) (l : List A) → length l ≡ n → take (min k n) l ≡ take k l

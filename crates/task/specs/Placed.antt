@@ -1,9 +1,11 @@
--- Where the task stands, for readers that copy nothing: numbers, and the host's place in the file. The purpose and the host's limit:
--- Task.antt; the task by its values: `sections_p` of card/specs/Content.antt, joined to this in proofs/Values.antt.
+-- Where the task stands, for readers that copy nothing: numbers, and the host's place in the file; then what stands where nothing was read.
+-- The purpose and the host's limit: Task.antt; the task by its values: `sections_p` of card/specs/Content.antt, joined to this in
+-- proofs/Values.antt.
 use Rattle.std.specs.Prelude.{ℕ, List}
 use Rattle.fields.specs.Fields.{Parsed, got, after, count_p, big_p}
-use Rattle.fields.specs.Spans.{span_p}
+use Rattle.fields.specs.Spans.{span_p, nowhere}
 use Rattle.task.specs.Task.{purpose_p, host_most}
+use Rattle.task.specs.declared.Host.{Host}
 use Rattle.task.specs.declared.Task.{Task}
 
 -- count byte 1; now and budget, a u64 each
@@ -21,3 +23,11 @@ task_p s at =
     after (purpose_p s e) (λ _ f.
     after (span_p 0 host_most s f) (λ host g.
     got (record { now = t.0; budget = t.1; host = record { name = host } }) g)))
+
+-- ---- what stands where nothing was read
+
+abbrev pub fresh-host : Host
+fresh-host = record { name = nowhere }
+
+abbrev pub fresh_task : Task
+fresh_task = record { now = 0; budget = 0; host = fresh-host }

@@ -5,7 +5,7 @@
 ghost use Rattle.std.specs.Prelude.{◌≡◌};
 ghost use Rattle.fields.specs.Answers.{read, passed, passing};
 ghost use Rattle.task.specs.Task.{purpose_p};
-ghost use Rattle.task.specs.Placed.{times_p, task_p};
+ghost use Rattle.task.specs.Placed.{times_p, task_p, fresh-host, fresh_task};
 
 use fields::{Fault, Reading, Span, byte_at, count_at, string_at, u64_at};
 
@@ -19,6 +19,15 @@ impl Host {
     pub const LEAST: usize = 0;
 
     pub const MOST: usize = 253;
+
+    // No host.
+    pub fn new() -> Host
+        ensures { result ≡ fresh-host }
+    {
+        Host {
+            name: Span::NOWHERE,
+        }
+    }
 }
 
 #[derive(Clone, Copy)]
@@ -32,6 +41,17 @@ impl Task {
     pub const COUNT: usize = 1;
 
     pub const SERVER: usize = 0;
+
+    // Nothing asked.
+    pub fn new() -> Task
+        ensures { result ≡ fresh_task }
+    {
+        Task {
+            now: 0,
+            budget: 0,
+            host: Host::new(),
+        }
+    }
 }
 
 // The task at a place.

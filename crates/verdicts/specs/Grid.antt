@@ -14,6 +14,10 @@ grid_p roots bundle s at =
     (after (many verdict_p n s e) (λ _ f. got (record { roots = roots; bundle = bundle; first = e }) f))
     (stop 7))
 
+-- what stands where nothing was read
+abbrev pub fresh-verdicts : Verdicts
+fresh-verdicts = record { roots = 0; bundle = 0; first = 0 }
+
 -- ---- by place
 
 -- row and column of the verdicts hold a 1; false if the file has no such place

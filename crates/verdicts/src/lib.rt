@@ -6,7 +6,7 @@ ghost use Rattle.std.specs.Prelude.{◌≡◌, ◌+◌, ◌*◌, ◌≤◌, leng
 ghost use Rattle.fields.specs.Fields.{many};
 ghost use Rattle.fields.specs.Answers.{read, passed, passing};
 ghost use Rattle.verdicts.specs.Verdicts.{verdict_p};
-ghost use Rattle.verdicts.specs.Grid.{grid_p, signed_at, root_signed, bundle_signed};
+ghost use Rattle.verdicts.specs.Grid.{grid_p, fresh-verdicts, signed_at, root_signed, bundle_signed};
 ghost use Rattle.verdicts.specs.Parts.{any_above_yes};
 
 use fields::{Fault, Reading, u16_at};
@@ -22,6 +22,17 @@ pub struct Verdicts {
 
 impl Verdicts {
     pub const YES: usize = 1;
+
+    // No verdicts.
+    pub fn new() -> Verdicts
+        ensures { result ≡ fresh-verdicts }
+    {
+        Verdicts {
+            roots: 0,
+            bundle: 0,
+            first: 0,
+        }
+    }
 
     // How many verdicts a file must have.
     #[tactic(auto, using(crate::proofs::Product::few))]

@@ -3,16 +3,13 @@ use Rattle.std.proofs.Common.{rules, ◌≡◌, ℕ, length}
 use Rattle.places.specs.Limits.{bundle_most}
 use Rattle.reply.specs.Numbers.{placed}
 use Rattle.desk.specs.Plain.{plain, numbers}
-use Rattle.desk.proofs.Mapped.{mapped}
 use Rattle.desk.proofs.plain.PlainFromAnswer.from.Goals.{in-Accepted, in-Refused, in-Exhausted, in-Error}
 use Rattle.desk.proofs.plain.PlainFromAnswer.from.Goals as goal
 
 pub returns : goal.returns
 unfolding plain
 returns c =
-    let places = c.args.answer.path.places in
-    let many : length places ≡ bundle_most = search rules in
-    let path : c.map.result ≡ numbers places = mapped _ _ (λ p. p.0) (placed 0) places c.map.result _ c.map.ensures.items many (λ p q x y called. search rules) in
+    let path = c.numbers_of.ensures in
     elim c.match-answer.branch [
       | in-Accepted w ↦ rw (path, w.number-is, w.in-Accepted.is)
       | in-Refused w ↦ rw (path, w.number-is, w.in-Refused.is)
