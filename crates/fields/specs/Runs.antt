@@ -1,9 +1,7 @@
 -- So many of a thing in a row, for readers that copy nothing: how many there are and where the first one stands; and what is asked of them
 -- one by one. The same by values: `counted_p` and `many` of Fields.antt.
-use Rattle.std.specs.Prelude.{ℕ, zero, suc, ◌≡◌, Bool, false, ◌||◌, List, Result}
+use Rattle.std.specs.Prelude.{ℕ, zero, suc, Bool, false, ◌||◌, List}
 use Rattle.fields.specs.Fields.{Parsed, got, stop, after, count_p, many}
-use Rattle.fields.specs.Answers.{read}
-use Rattle.fields.specs.declared.fault.Fault.{Fault}
 use Rattle.fields.specs.declared.run.Run.{Run}
 
 -- how many of a thing there are, and where the first one stands
@@ -22,7 +20,3 @@ passes test (stop r) rest = false
 unfoldable pub any_of : {A : Type 0} → (A → Bool) → (List ℕ → ℕ → Parsed A) → ℕ → List ℕ → ℕ → Bool
 any_of test p zero s at = false
 any_of test p (suc n) s at = passes test (p s at) (λ e. any_of test p n s e)
-
--- at each place, these answers tell whether the thing there passes, and the place past it
-abbrev pub Tells : {A : Type 0} → (A → Bool) → (ℕ → Parsed A) → (ℕ → Result (Bool × ℕ) Fault → Type 0) → Type 0
-Tells test p answers = (at : ℕ) (r : Result (Bool × ℕ) Fault) → answers at r → read r ≡ after (p at) (λ a e. got (test a) e)

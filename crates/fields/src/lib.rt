@@ -9,6 +9,7 @@ mod fault;
 mod number;
 mod run;
 mod string;
+mod test;
 mod thing;
 
 pub use count::{byte_at, count_at};
@@ -16,6 +17,7 @@ pub use fault::Fault;
 pub use number::{u16_at, u64_at};
 pub use run::{Run, list_at, run_at};
 pub use string::{Span, part, string_at};
+pub use test::Test;
 pub use thing::{Thing, whole};
 
 // What stands at a place and the place past it, or why it can't be read.

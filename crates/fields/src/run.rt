@@ -1,10 +1,10 @@
 // So many of a thing in a row.
-ghost use Rattle.std.specs.Prelude.{◌≡◌, ℕ, Bool};
+ghost use Rattle.std.specs.Prelude.{◌≡◌};
 ghost use Rattle.fields.specs.Fields.{count_p, many};
-ghost use Rattle.fields.specs.Runs.{run_p, any_of, Tells};
+ghost use Rattle.fields.specs.Runs.{run_p, any_of};
 ghost use Rattle.fields.specs.Answers.{begun, read, passed, passing};
 
-use crate::{Fault, Reading, Thing, count_at};
+use crate::{Fault, Reading, Test, Thing, count_at};
 
 // How many of a thing there are, and where the first one stands.
 #[derive(Clone, Copy)]
@@ -25,15 +25,13 @@ impl Run {
         Ok(at)
     }
 
-    // Whether one of them passes a test, from the left as far as they can be read. The test is handed the place of a thing, and tells the
-    // place past it too, so that nothing is read twice.
-    pub fn any<T: Thing, F: Fn(usize) -> Reading<bool>>(self, file: &[u8], test: F) -> bool
-        requires { F.IsAlwaysCallable test }
-        ensures { (passes : T.Value → Bool) → Tells passes (T.thing_p file.now) (F.post test) → result ≡ any_of passes T.thing_p self.count file.now self.first }
+    // Whether one of them passes a test, from the left as far as they can be read.
+    pub fn any<T: Test>(self, file: &[u8], test: &T) -> bool
+        ensures { result ≡ any_of (T.passes test.now) T.thing_p self.count file.now self.first }
     {
         let mut at = self.first;
         for _ in 0..self.count {
-            match test(at) {
+            match test.ask(file, at) {
                 Ok((true, _)) => return true,
                 Ok((false, next)) => at = next,
                 Err(_) => return false,

@@ -1,6 +1,6 @@
 -- What a walk of two things side by side answers: where both end, or nothing where they differ. Which relation is walked: Same.antt; the
 -- laws of walks: proofs/Walks.antt.
-use Rattle.std.specs.Prelude.{ℕ, ◌≡◌, Bool, cond, List, Option, Some, None}
+use Rattle.std.specs.Prelude.{ℕ, Bool, cond, List, Option, Some, None}
 use Rattle.fields.specs.Fields.{Parsed, got, stop}
 use Rattle.same.specs.declared.pair.Pair.{Pair}
 
@@ -13,7 +13,3 @@ walk q (stop r) b = None
 -- the walk of two things of a pair, at a place of each text
 abbrev pub walk_at : {A : Type 0} → (Bool → A → A → Bool) → (List ℕ → ℕ → Parsed A) → Pair → ℕ → ℕ → Option (ℕ × ℕ)
 walk_at q p pair at bt = walk (q pair.normalise) (p pair.left.now at) (p pair.right.now bt)
-
--- at each two places, these answers are the walk of what stands there
-abbrev pub Walks : {A : Type 0} → (A → A → Bool) → (ℕ → Parsed A) → (ℕ → Parsed A) → (ℕ → ℕ → Option (ℕ × ℕ) → Type 0) → Type 0
-Walks q l r answers = (at bt : ℕ) (o : Option (ℕ × ℕ)) → answers at bt o → o ≡ walk q (l at) (r bt)

@@ -7,9 +7,11 @@
 mod matching;
 mod pair;
 mod related;
+mod relation;
 mod values;
 mod walk;
 
 pub use pair::Pair;
 pub use related::{ask, number, same_attr, same_dn, same_rdn};
+pub use relation::Relation;
 pub use walk::{rdns_walk, same_names};

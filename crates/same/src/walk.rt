@@ -1,14 +1,15 @@
 // Two attributes, RDNs or names walked side by side: where both end if they are related, nothing if they differ or can't be read.
-ghost use Rattle.std.specs.Prelude.{◌≡◌, Bool, List};
+ghost use Rattle.std.specs.Prelude.{◌≡◌, List};
 ghost use Rattle.fields.specs.Fields.{many};
 ghost use Rattle.names.specs.Names.{Attr, attr_p, rdn_p, name_p};
 ghost use Rattle.names.specs.Answers.{attr_of};
 ghost use Rattle.same.specs.Same.{places, same_attr, same_rdn, same_dn};
 ghost use Rattle.same.specs.Answers.{same_names};
-ghost use Rattle.same.specs.Walks.{walk, walk_at, Walks};
+ghost use Rattle.same.specs.Walks.{walk, walk_at};
 
-use crate::Pair;
+use crate::relation::SameRdn;
 use crate::values::same_normal;
+use crate::{Pair, Relation};
 use fields::{Span, part};
 use names::{Attribute, attribute_at, name_begins, rdn_begins};
 use text::equal;
@@ -26,20 +27,15 @@ pub fn same_names(file: &[u8], a: Span, b: Span, normalise: bool) -> bool
         .is_some()
 }
 
-// n RDNs from each of two places on, by a walk of one from each.
-pub fn rdns_walk<F: Fn(usize, usize) -> Option<(usize, usize)>>(
-    n: usize,
-    at: usize,
-    bt: usize,
-    one: F,
-) -> Option<(usize, usize)>
-    requires { F.IsAlwaysCallable one }
-    ensures { (q : List Attr → List Attr → Bool) (s t : _) → Walks q (rdn_p s) (rdn_p t) (F.post one)
-        → result ≡ walk (places q) (many rdn_p n s at) (many rdn_p n t bt) }
+// n RDNs from each of two places of a pair's texts on, each of the first related to the one at its place in the second.
+pub fn rdns_walk<R: Relation>(pair: Pair, n: usize, at: usize, bt: usize) -> Option<(usize, usize)>
+    ensures { result ≡ walk (places (R.related pair.entry.normalise))
+        (many R.thing_p n pair.entry.left.now at)
+        (many R.thing_p n pair.entry.right.now bt) }
 {
     let mut ends = (at, bt);
     for _ in 0..n {
-        ends = one(ends.0, ends.1)?;
+        ends = R::walk(pair, ends.0, ends.1)?;
     }
     Some(ends)
 }
@@ -54,9 +50,7 @@ impl Pair<'_> {
         if left.count != right.count {
             return None;
         }
-        rdns_walk(left.count, left.first, right.first, |at, bt| {
-            self.rdn_walk(at, bt)
-        })
+        rdns_walk::<SameRdn>(self, left.count, left.first, right.first)
     }
 
     // The RDNs at two places: as many attributes, and each of the first has a match in the second. Most have one, which needs no search.

@@ -7,9 +7,9 @@ ghost use Rattle.same.specs.Matching.{rdn_has_name};
 ghost use Rattle.same.specs.Answers.{said, asked};
 ghost use Rattle.subtree.specs.Subtree.{is_subtree_rdn, is_subtree_of};
 
-use crate::under::{subtree, subtree_rdn_walk};
+use crate::under::{SubtreeRdn, subtree};
 use fields::{Fault, whole};
-use names::{Attribute, Name, Rdn, attribute_at, rdn_begins};
+use names::{Attribute, Name, Rdn, rdn_begins};
 use same::{Pair, ask};
 
 // Whether some attribute of an RDN is the same as this one.
@@ -19,15 +19,14 @@ pub fn rdn_has_name(rdn: &[u8], name: &[u8], normalise: bool) -> Result<bool, Fa
     whole::<Rdn>(rdn)?;
     whole::<Attribute>(name)?;
     let attributes = rdn_begins(rdn, 0)?;
-    let attribute = attribute_at(name, 0)?;
-    Ok(Pair::of(name, rdn, normalise).has_name(attributes, attribute))
+    Ok(Pair::of(name, rdn, normalise).has_name(attributes, 0))
 }
 
 // No more attributes, and the second RDN has each of the first's.
 pub fn is_subtree_rdn(a: &[u8], b: &[u8], normalise: bool) -> Result<bool, Fault>
     ensures { said result ≡ asked (is_subtree_rdn normalise) (whole rdn_p a.now) (whole rdn_p b.now) }
 {
-    ask::<Rdn, _>(a, b, || subtree_rdn_walk(Pair::of(a, b, normalise), 0, 0))
+    ask::<SubtreeRdn>(a, b, normalise)
 }
 
 // No more RDNs, each a subtree of the one at its place. Not by `ask`: the walk ends before the second name does, which may have more RDNs.

@@ -1,16 +1,36 @@
 // Whether an RDN or a name lies under another.
-ghost use Rattle.std.specs.Prelude.{◌≡◌};
-ghost use Rattle.names.specs.Names.{rdn_p, name_p};
+ghost use Rattle.std.specs.Prelude.{◌≡◌, List};
+ghost use Rattle.names.specs.Names.{Attr, rdn_p, name_p};
 ghost use Rattle.same.specs.Answers.{both_read};
 ghost use Rattle.same.specs.Walks.{walk_at};
 ghost use Rattle.same.specs.Rows.{Fine};
 ghost use Rattle.subtree.specs.Subtree.{is_subtree_rdn, is_subtree_of};
 
-use names::{name_begins, rdn_begins};
-use same::{Pair, rdns_walk};
+use fields::{Fault, whole};
+use names::{Rdn, name_begins, rdn_begins};
+use same::{Pair, Relation, rdns_walk};
+
+// The relation of an RDN and one that it lies under.
+pub(crate) struct SubtreeRdn;
+
+impl Relation for SubtreeRdn {
+    ghost Value = { List Attr };
+
+    ghost thing_p = { rdn_p };
+
+    ghost related = { is_subtree_rdn };
+
+    fn whole(s: &[u8]) -> Result<usize, Fault> {
+        whole::<Rdn>(s)
+    }
+
+    fn walk(pair: Pair, at: usize, bt: usize) -> Option<(usize, usize)> {
+        subtree_rdn_walk(pair, at, bt)
+    }
+}
 
 // Where two RDNs end, if the first is a subtree of the second. Not `rdn_walk` of same, which asks for as many and walks one attribute alone.
-pub(crate) fn subtree_rdn_walk(pair: Pair, at: usize, bt: usize) -> Option<(usize, usize)>
+fn subtree_rdn_walk(pair: Pair, at: usize, bt: usize) -> Option<(usize, usize)>
     ensures { result ≡ walk_at is_subtree_rdn rdn_p pair.entry at bt }
 {
     let a = rdn_begins(pair.left, at).ok()?;
@@ -35,8 +55,5 @@ pub(crate) fn subtree(names: Pair) -> bool
     if high.count < low.count {
         return false;
     }
-    rdns_walk(low.count, low.first, high.first, |at, bt| {
-        subtree_rdn_walk(names, at, bt)
-    })
-    .is_some()
+    rdns_walk::<SubtreeRdn>(names, low.count, low.first, high.first).is_some()
 }

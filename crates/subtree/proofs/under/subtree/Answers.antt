@@ -1,7 +1,6 @@
 -- `subtree` walks the first name's RDNs beside as many of the second's: what the second has past them does not count.
 use mathlib.Core.Path.{sym, ap, ◌∙◌}
 use lib.Dec.{leb}
-use borrow.Author.Rules.{rules}
 use borrow.Author.Tests.{lt-leb}
 use Rattle.std.specs.Prelude.{is_some}
 use Rattle.fields.proofs.Asked.{begun_ok, begun_err}
@@ -40,6 +39,6 @@ returns c =
     let left = row_read 0 name_most rdn_p _ 0 _ _ (begun_ok c.name_begins.ensures c.in-Ok.is) pre.0 in
     let right = row_read 0 name_most rdn_p _ 0 _ _ (begun_ok c.name_begins-2.ensures c.in-Ok-name_begins.is) pre.1 in
     c.is_some.ensures
-    ∙ ap is_some (c.rdns_walk.ensures (is_subtree_rdn _) _ _ (λ at bt o h. search rules))
+    ∙ ap is_some c.rdns_walk.ensures
     ∙ front_judged left right (is_subtree_rdn _) c.if-high-low.false
     ∙ walk_both (is_subtree_of _) (name_p _ _) (name_p _ _)

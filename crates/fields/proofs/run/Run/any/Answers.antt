@@ -4,19 +4,17 @@ use Rattle.fields.proofs.Runs.{any_yes, any_next, any_untold, any_ends}
 use Rattle.fields.proofs.run.Run.any.Goals as goal
 
 pub returns-in-Ok-true-default : goal.returns-in-Ok-true-default
-returns-in-Ok-true-default g c = λ passes tells.
+returns-in-Ok-true-default g c =
     let arm = c.in-Ok-true-default in
-    sym
-    (any_yes passes _ _ _ _ _ _ (c.loop.invariant passes tells) _ (tells _ _ c.test.ensures) c.loop-test.true _ _ arm.is arm.field-0-0-test)
+    sym (any_yes _ _ _ _ _ _ _ c.loop.invariant _ c.ask.ensures c.loop-test.true _ _ arm.is arm.field-0-0-test)
 
 pub returns-in-Err : goal.returns-in-Err
-returns-in-Err g c = λ passes tells.
-    sym (any_untold passes _ _ _ _ _ _ (c.loop.invariant passes tells) _ (tells _ _ c.test.ensures) c.loop-test.true _ c.in-Err.is)
+returns-in-Err g c = sym (any_untold _ _ _ _ _ _ _ c.loop.invariant _ c.ask.ensures c.loop-test.true _ c.in-Err.is)
 
 pub loop-preserved : goal.loop-preserved
-loop-preserved g c = λ passes tells.
+loop-preserved g c =
     let arm = c.in-Ok-false-default in
-    any_next passes _ _ _ _ _ _ (c.loop.invariant passes tells) _ (tells _ _ c.test.ensures) c.loop-test.true _ _ arm.is arm.field-0-0-test
+    any_next _ _ _ _ _ _ _ c.loop.invariant _ c.ask.ensures c.loop-test.true _ _ arm.is arm.field-0-0-test
 
 pub returns : goal.returns
-returns g c = λ passes tells. sym (any_ends passes _ _ _ _ _ _ (c.loop.invariant passes tells) c.loop-test.false)
+returns g c = sym (any_ends _ _ _ _ _ _ _ c.loop.invariant c.loop-test.false)

@@ -1,7 +1,6 @@
 -- `dn_walk` walks the RDNs of two names, which differ where their counts do.
 use mathlib.Core.Path.{sym, ◌∙◌}
 use lib.Dec.{eqb}
-use borrow.Author.Rules.{rules}
 use borrow.Author.Tests.{ne_eqb}
 use Rattle.fields.proofs.Asked.{begun_ok, begun_err}
 use Rattle.names.specs.Names.{rdn_p, name_p}
@@ -34,5 +33,5 @@ unfolding name_p same_dn
 returns c =
     let left = begun_ok c.name_begins.ensures (kept c.ok.ensures.value c.in_ok-left.was) in
     let right = begun_ok c.name_begins-2.ensures (kept c.ok-2.ensures.value c.in_ok-right.was) in
-    c.rdns_walk.ensures (same_rdn _) _ _ (λ at bt o h. search rules)
+    c.rdns_walk.ensures
     ∙ sym (counted_same (places (same_rdn _)) rdn_p _ _ _ _ _ _ _ _ _ _ left right c.if-left-right.false)

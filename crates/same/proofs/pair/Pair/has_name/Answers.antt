@@ -1,13 +1,10 @@
--- `has_name` finds an attribute among those that stand.
-use mathlib.Core.Path.{◌∙◌}
-use borrow.Author.Rules.{rules}
-use Rattle.names.specs.Names.{attr_p}
-use Rattle.names.specs.Answers.{attr_of}
-use Rattle.same.specs.Matching.{same_attr}
-use Rattle.same.proofs.Standing.{any_standing}
+-- `has_name` finds the attribute at a place among those that stand; none that can't be read.
+use mathlib.Core.Path.{refl}
+use Rattle.names.proofs.Attributes.{attr_read, attr_stops}
 use Rattle.same.proofs.pair.Pair.has_name.Goals as goal
 
+pub returns-in_default : goal.returns-in_default
+returns-in_default c = rw (attr_stops _ _ _ c.attribute_at.ensures _ c.in_default.is) refl
+
 pub returns : goal.returns
-returns c =
-    c.any.ensures (λ x. same_attr c.args.self.normalise x (attr_of c.args.name c.args.self.left.now)) (λ at r p. search rules)
-    ∙ any_standing attr_p c.args.self.right.now _ c.args.rdn.count c.args.rdn.first
+returns c = rw (attr_read _ _ _ c.attribute_at.ensures _ c.in-Ok.is) c.has_attribute.ensures

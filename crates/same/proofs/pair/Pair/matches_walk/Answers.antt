@@ -14,15 +14,15 @@ returns-in_err-name c =
     c.from_residual.ensures
     ∙ sym (c.loop.invariant ∙ sought_stops _ _ _ _ _ (c.args.a.count - (c.loop.counter + 1)) _ (omega arith) _ stops)
 
-pub returns-then-not-has_name : goal.returns-then-not-has_name
-returns-then-not-has_name c =
+pub returns-then-not-has_attribute : goal.returns-then-not-has_attribute
+returns-then-not-has_attribute c =
     let name = attr_read _ _ _ c.attribute_at.ensures _ (kept c.ok.ensures.value c.in_ok-name.was) in
-    sym (c.loop.invariant ∙ sought_first _ _ _ _ _ (c.args.a.count - (c.loop.counter + 1)) _ (omega arith) _ _ name false (sym c.has_name.ensures ∙ c.if-not-has_name.true))
+    sym (c.loop.invariant ∙ sought_first _ _ _ _ _ (c.args.a.count - (c.loop.counter + 1)) _ (omega arith) _ _ name false (sym c.has_attribute.ensures ∙ c.if-not-has_attribute.true))
 
 pub loop-preserved : goal.loop-preserved
 loop-preserved c =
     let name = attr_read _ _ _ c.attribute_at.ensures _ (kept c.ok.ensures.value c.in_ok-name.was) in
-    c.loop.invariant ∙ sought_first _ _ _ _ _ _ _ (omega arith) _ _ name true (sym c.has_name.ensures ∙ c.if-not-has_name.false)
+    c.loop.invariant ∙ sought_first _ _ _ _ _ _ _ (omega arith) _ _ name true (sym c.has_attribute.ensures ∙ c.if-not-has_attribute.false)
 
 pub returns : goal.returns
 returns c = sym (c.loop.invariant ∙ sought_none _ _ _ _ _ _ (omega arith))
