@@ -1,5 +1,5 @@
 -- Things in a row up to the first that can't be read: what is asked of them one by one (`any_standing`), and a row that was read through
--- (`standing-whole`). For `has_name` and Rows.antt; `standing` is in specs/Rows.antt.
+-- (`standing-whole`). For `has_attribute` and Rows.antt; `standing` is in specs/Rows.antt.
 use Prim.Native.Nat.{ℕ, zero, suc, ◌-◌}
 use mathlib.Core.Path.{◌≡◌, refl, sym}
 use mathlib.Core.Bool.{Bool}
