@@ -1,6 +1,7 @@
 -- `with_places` writes a path's places, each after a space.
 use Rattle.std.proofs.Common.{◌≡◌, ◌++◌, ◌≤◌, map, take, sym, ap, ◌∙◌, arith, rules}
 use mathlib.Core.List.{append-nil}
+use native.Mathlib.Nat.{sub-zero}
 use lib.ListN.{length}
 use lib.Seq.{take_all}
 use Rattle.places.specs.Limits.{bundle_most}
@@ -28,8 +29,7 @@ pub returns-clause-by_index : goal.returns-clause-by_index
 unfolding places_shown
 returns-clause-by_index c s h =
     let path = c.args.path in
-    let shown = take c.within-n.result path.places in
     let many : length path.places ≡ bundle_most = search rules in
-    let first : shown ≡ take path.length path.places = rw (c.within-n.ensures, c.into.ensures) (take-few bundle_most path.length path.places many) in
+    let first : take c.within-n.result path.places ≡ take path.length path.places = rw (c.within-n.ensures, c.into.ensures) (take-few bundle_most path.length path.places many) in
     c.loop-place.invariant.written s h
-    ∙ ap (λ x. line_shown (s ++ spaced (map number_of x))) (take_all c.loop-place.place-index shown c.loop-place-test.false ∙ first)
+    ∙ ap (λ x. line_shown (s ++ spaced (map number_of x))) (take_all c.loop-place.place-index _ c.loop-place-test.false ∙ search (rules, sub-zero, first))
