@@ -20,6 +20,6 @@ standing p zero s at = []
 standing p (suc n) s at = with_rest (p s at) (λ e. standing p n s e)
 
 -- the attribute at a place is among these; false if none can be read there
-abbrev pub has_read : Bool → List Attr → Parsed Attr → Bool
+unfoldable pub has_read : Bool → List Attr → Parsed Attr → Bool
 has_read normalise rdn (got x e) = rdn_has_name normalise rdn x
 has_read normalise rdn (stop r) = false

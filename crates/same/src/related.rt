@@ -26,7 +26,7 @@ pub fn ask<R: Relation>(a: &[u8], b: &[u8], normalise: bool) -> Result<bool, Fau
 {
     R::whole(a)?;
     R::whole(b)?;
-    Ok(R::walk(Pair::of(a, b, normalise), 0, 0).is_some())
+    Ok(R::walk(&Pair::of(a, b, normalise), 0, 0).is_some())
 }
 
 // Equal OID, and equal value, normalised when the flag says so.

@@ -24,8 +24,8 @@ impl Relation for SubtreeRdn {
         whole::<Rdn>(s)
     }
 
-    fn walk(pair: Pair, at: usize, bt: usize) -> Option<(usize, usize)> {
-        subtree_rdn_walk(pair, at, bt)
+    fn walk(pair: &Pair, at: usize, bt: usize) -> Option<(usize, usize)> {
+        subtree_rdn_walk(*pair, at, bt)
     }
 }
 
@@ -55,5 +55,5 @@ pub(crate) fn subtree(names: Pair) -> bool
     if high.count < low.count {
         return false;
     }
-    rdns_walk::<SubtreeRdn>(names, low.count, low.first, high.first).is_some()
+    rdns_walk::<SubtreeRdn>(&names, low.count, low.first, high.first).is_some()
 }
