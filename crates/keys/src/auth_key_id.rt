@@ -4,8 +4,10 @@ ghost use Rattle.keys.specs.AuthKeyId.{agree, check_auth_key_id};
 ghost use Rattle.keys.specs.Given.{given};
 
 // Whether what a subject says of its issuer's key fits the issuer: the subject's authority key id and authority serial,
-// the issuer's subject key id and serial.
+// the issuer's subject key id and serial. Always inlined, so that flags which a caller has are looked at as they are, and no Option is made
+// of them.
 #[tactic(auto, unfolding(crate::specs::AuthKeyId::check_auth_key_id))]
+#[inline(always)]
 pub fn check_auth_key_id(
     akid: Option<&[u8]>,
     aserial: Option<&[u8]>,

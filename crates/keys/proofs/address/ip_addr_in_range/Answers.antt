@@ -2,7 +2,8 @@
 use mathlib.Core.Path.{sym}
 use mathlib.Core.Logic.{inl, inr, ⊎_elim}
 use native.Mathlib.Omega.{arith}
-use Rattle.std.proofs.Common.{rules}
+use Rattle.std.proofs.Common.{rules, length, drop, length-drop}
+use Rattle.std.proofs.lemmas.List.{take_all}
 use Rattle.keys.proofs.Range.{outside, inside}
 use Rattle.keys.proofs.address.ip_addr_in_range.Goals as goal
 
@@ -15,4 +16,5 @@ returns-then-range-width c = sym (outside _ _ (λ r a. omega arith) (λ r a. ome
 pub returns : goal.returns
 returns c =
     let i = inside c.args.range.now c.args.addr.now c.if-range-width.false (⊎_elim (λ w. inr w.1) inl c.else-width-ne-V4.either) in
-    search rules
+    let whole = take_all (length c.args.addr.now) (drop (length c.args.addr.now) c.args.range.now) (simp (length-drop) (omega (arith, c.if-range-width.false))) in
+    search (rules, whole)
