@@ -8,7 +8,7 @@ const V4: usize = 4;
 const V6: usize = 16;
 
 // Whether an address lies in a range of its own kind. The mask is any bytes; it is cut to the address's length, which it has, so that a
-// byte costs one look at a length and not three.
+// byte costs one look at a length and not two.
 pub fn ip_addr_in_range(range: &[u8], addr: &[u8]) -> bool
     ensures { result ≡ ip_addr_in_range range.now addr.now }
 {
